@@ -163,6 +163,9 @@ def generated(lengths, draw):
         groups = [digits[:first], *(digits[at : at + 3] for at in range(first, len(digits), 3))]
         grouped = "_".join(it for it in groups if it)
         yield f"rewritten\t{digits}\tgrouped=0,0,3,0\t{grouped}"
+        fraction = "_".join(digits[at : at + 3] for at in range(0, len(digits), 3))
+        number, written = f"{digits}.{digits}E-{digits}", f"{grouped}.{fraction}E-{grouped}"
+        yield f"rewritten\t{number}\tfloats_grouped=3,3,3\t{written}"
         yield f"Literal,FloatLit\t{digits}.5\tfloat\t\t{digits}.5\t{digits}\t5\t"
         yield f"Literal,CharLit\t'a'a{digits}\tchar\ta{digits}\t61"
         yield f"Literal,ByteLit\tb'a'a{digits}\tbyte\ta{digits}\t61"

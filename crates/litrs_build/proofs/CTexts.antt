@@ -207,7 +207,7 @@ c_scalars zero m (b ∷ bs) small =
     (first_scalars m b bs o (small 0) refl)
     (c_scalars (len_or_byte o - 1) (is_escaped s) bs (λ i. small (suc i)))
 
--- Where no error is expected
+-- If no error is expected
 
 none_here : (p : ℕ → Bool) (xs : List ℕ) (b : Bool) →
     suc (length xs) ≤ cond (not b) (1 + prefix_len (λ y. not (p y)) xs) 0 →

@@ -43,7 +43,7 @@ digits_upper : (n : ℕ) → digits 16 true n ≡ map to_ascii_uppercase (digits
 unfolding digits
 digits_upper n = onto_upper 64 n []
 
--- what the sixteen pass in both cases, each passes
+-- a test that the sixteen pass in both cases, each passes
 pub cased_glyph_passes : (upper : Bool) (p : ℕ → Bool) → list_all p hex_glyphs ≡ true →
     list_all (λ c. p (to_ascii_uppercase c)) hex_glyphs ≡ true → (d : ℕ) → d < 16 →
     p (digit_glyph upper d) ≡ true

@@ -1,14 +1,14 @@
 -- An integer that is rewritten: it is an integer with the same value.
 use Rattle.std.proofs.Common.{◌≡◌, ℕ, suc, ◌+◌, ◌<◌, Bool, true, false, cond, eqb, List, [], ◌∷◌, ◌++◌, map, length, refl, sym, ap, ◌∙◌, subst, arith, inl, inr}
-use Rattle.std.specs.Prelude.{filter, Option, Some, None, if◌then◌else◌}
+use Rattle.std.specs.Prelude.{◌==◌, filter, Option, Some, None, if◌then◌else◌}
 use Rattle.std.specs.Char.{is_ascii_digit, to_ascii_lowercase}
 use Rattle.std.specs.List.{list_all, list_any}
 use Rattle.std.specs.Str.{chars, IsUtf8, IsAscii}
-use Rattle.std.proofs.lemmas.Bool.{and_from, and_parts, or_left, or_right, or_cases, eqb-true, cases_eq, not_from_false, true≢false}
+use Rattle.std.proofs.lemmas.Bool.{and_from, and_parts, or_left, or_right, or_cases, eqb-true, cases_eq, ne_eqb, not_from_false, true≢false}
 use Rattle.std.proofs.lemmas.Bool.Decides.{nat_tests}
 use Rattle.std.proofs.lemmas.List.{length-map, append_assoc, append-nil}
 use Rattle.std.proofs.lemmas.Str.{chars-append, chars-IsAscii, IsUtf8-from_ascii, IsAscii-append}
-use Rattle.std.proofs.lemmas.Str.Ascii.{lowercase-uppercase}
+use Rattle.std.proofs.lemmas.Str.Ascii.{lowercase-uppercase, uppercase-uppercase}
 use Rattle.litrs_base.specs.Base.{prefix, base_value, is_digit, is_digit_or_underscore}
 use Rattle.litrs_base.specs.Numeral.{is_no_underscore}
 use Rattle.litrs_base.specs.Text.{first_passes}
@@ -57,7 +57,7 @@ line_stays case c = elim (cases_eq c 95) [
   | inr ne ↦ no_underscore (cased case c) (λ e. ne (line_back case c e)) ∙ sym (no_underscore c ne)
 ]
 
-lower_cased : (case : Option Case) (c : ℕ) →
+pub lower_cased : (case : Option Case) (c : ℕ) →
     to_ascii_lowercase (cased case c) ≡ to_ascii_lowercase c
 lower_cased None c = refl
 lower_cased (Some Lower) c = lower_twice c
@@ -68,6 +68,17 @@ decimal_same : (case : Option Case) (c : ℕ) → is_digit_or_underscore Decimal
 decimal_same None c is = refl
 decimal_same (Some Lower) c is = grind (arith, nat_tests)
 decimal_same (Some Upper) c is = grind (arith, nat_tests)
+
+pub cased_twice : (case : Option Case) (c : ℕ) → cased case (cased case c) ≡ cased case c
+cased_twice None c = refl
+cased_twice (Some Lower) c = lower_twice c
+cased_twice (Some Upper) c = uppercase-uppercase c
+
+pub line_same : (case : Option Case) (c : ℕ) → (cased case c == 95) ≡ (c == 95)
+line_same case c = elim (cases_eq c 95) [
+  | inl is ↦ ap (λ (n : ℕ). n == 95) (ap (cased case) is ∙ (line_at case ∙ sym is))
+  | inr ne ↦ ne_eqb (cased case c) 95 (λ e. ne (line_back case c e)) ∙ sym (ne_eqb c 95 ne)
+]
 
 -- Digits in a case
 
@@ -122,7 +133,7 @@ digit_of_char base c is no_line = elim (or_cases (is_digit base c) (eqb c 95) is
   | inr line ↦ absurd (true≢false (sym no_line ∙ ap is_no_underscore (eqb-true c 95 line)))
 ]
 
-digits_filtered : (base : IntegerBase) (t : List ℕ) →
+pub digits_filtered : (base : IntegerBase) (t : List ℕ) →
     list_all (is_digit_or_underscore base) t ≡ true →
     list_all (is_digit base) (filter is_no_underscore t) ≡ true
 digits_filtered base [] all = refl
@@ -165,7 +176,7 @@ decimal_all case (c ∷ t) all =
     let both = and_parts (is_digit_or_underscore Decimal c) (list_all (is_digit_or_underscore Decimal) t) all in
     (λ i. decimal_same case c both.0 i ∷ decimal_all case t both.1 i)
 
-filtered_all : (p : ℕ → Bool) (t : List ℕ) → list_all p t ≡ true →
+pub filtered_all : (p : ℕ → Bool) (t : List ℕ) → list_all p t ≡ true →
     list_all p (filter is_no_underscore t) ≡ true
 filtered_all p [] all = refl
 filtered_all p (c ∷ t) all =

@@ -163,7 +163,7 @@ own_value (unicode_escape inner) = refl
 
 -- The spelling with only the escapes that are needed
 
--- a character fits switches, where it stands for itself if it has no short escape
+-- a character fits switches that allow it unescaped if it has no short escape
 pub char_fits : (w : Switches) (plain : ℕ → Bool) (q : ℕ) (m : Bool) (c : ℕ) → is_simple q ≡ true →
     simple_value q ≡ q → allows_value w q ≡ true →
     scalar c ≡ true → fits_charset w.unicode c ≡ true → allows_value w c ≡ true →

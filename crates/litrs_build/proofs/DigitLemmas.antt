@@ -167,7 +167,7 @@ written-filled base value =
     let same = length-map (digits_of b value) digit_char in
     omega (arith, one, same))
 
--- How they are written into a buffer from the last on.
+-- They are written into a buffer, the last one first.
 
 pub write_step : (b rest start : ℕ) (buffer all : List ℕ) → 2 ≤ b → 0 < rest → 0 < start →
     start ≤ length buffer →

@@ -15,12 +15,14 @@ use Rattle.litrs_base.specs.Numeral.{place_sum}
 use Rattle.litrs_base.specs.declared.integer.IntegerBase.TheVariants.{Hexadecimal}
 use Rattle.litrs_grammar.specs.Quoted.{Item, plain_item, escape_item, continuation}
 use Rattle.litrs_grammar.specs.Escape.{simple_escape, unicode_escape}
+use Rattle.litrs_build.specs.RewrittenFloat.{grouped_after, rewritten_float}
 use Rattle.litrs_build.specs.RewrittenInteger.{rewritten_integer}
 use Rattle.litrs_build.specs.Rewriting.{rewritten_items}
 use Rattle.litrs_build.specs.WrittenDigits.{grouped}
 use Rattle.litrs_build.specs.declared.rewriting.Before.TheVariants.{Mark}
 use Rattle.litrs_build.specs.declared.style.Case.TheVariants.{Upper}
 use Rattle.litrs_build.specs.declared.style.Escapes.TheVariants.{Respelled}
+use Rattle.litrs_build.specs.declared.style.FloatGroups.TheVariants.{Grouped as FloatGrouped}
 use Rattle.litrs_build.specs.declared.style.GroupLens.{GroupLens}
 use Rattle.litrs_build.specs.declared.style.Groups.TheVariants.{Grouped}
 use Rattle.litrs_build.specs.declared.style.Lines.{Lines}
@@ -54,8 +56,8 @@ kinds_apart = (
   λ d e same. same,
 )
 
--- Literals that are rewritten: the parts of `0xf_ff_0001u32`, and those of `"\u{0_0e9}` LF `\` LF
--- `  a"`, whose lines stay or are joined
+-- Literals that are rewritten: the parts of `0xf_ff_0001u32`, those of `1_0000.0_0012e-1_0f32`, and
+-- those of `"\u{0_0e9}` LF `\` LF `  a"`, whose lines stay or are joined
 
 abbrev pub groups_of_four : GroupLens
 groups_of_four = record { binary = 4; octal = 4; decimal = 3; hexadecimal = 4 }
@@ -67,6 +69,8 @@ upper_style lines = record {
   lines = lines;
   digits = Some Upper;
   groups = Grouped groups_of_four;
+  exponents = Some Upper;
+  float_groups = FloatGrouped (record { integer = 3; fraction = 3; exponent = 3 });
 }
 
 pub integer_in_groups :
@@ -77,6 +81,21 @@ pub integer_in_groups :
     }) ≡ record { base = Hexadecimal; main = codes "FFF_0001"; suffix = codes "u32" }
 unfolding grouped
 integer_in_groups = refl
+
+pub float_in_groups :
+    rewritten_float (upper_style lines_kept) (record {
+      integer = codes "1_0000";
+      fraction = Some (codes "0_0012");
+      exponent = codes "e-1_0";
+      suffix = codes "f32";
+    }) ≡ record {
+      integer = codes "10_000";
+      fraction = Some (codes "000_12");
+      exponent = codes "E-10";
+      suffix = codes "f32";
+    }
+unfolding grouped grouped_after
+float_in_groups = refl
 
 abbrev pub two_lines : List Item
 two_lines = escape_item (unicode_escape (codes "0_0e9")) ∷ plain_item 10 ∷ continuation (codes "  ")

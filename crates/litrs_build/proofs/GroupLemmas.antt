@@ -32,7 +32,7 @@ filter_at c xs h = ap (λ v. cond v (c ∷ filter is_no_underscore xs) (filter i
 -- Groups.
 
 -- after each group a `_`, or none
-abbrev mark : Bool → List ℕ
+abbrev pub mark : Bool → List ℕ
 mark ends = if ends then 95 ∷ [] else []
 
 filter_marked : (c : ℕ) (ends : Bool) (xs : List ℕ) → is_no_underscore c ≡ true →
@@ -50,7 +50,7 @@ filter_grouped group (c ∷ ds) all =
     filter_marked c (ends_group group (length ds)) (grouped group ds) parts.0
     ∙ ap (λ t. c ∷ t) (filter_grouped group ds parts.1)
 
-all_marked : (p : ℕ → Bool) (ends : Bool) (xs : List ℕ) → p 95 ≡ true → list_all p xs ≡ true →
+pub all_marked : (p : ℕ → Bool) (ends : Bool) (xs : List ℕ) → p 95 ≡ true → list_all p xs ≡ true →
     list_all p (mark ends ++ xs) ≡ true
 all_marked p true xs line all = and_from (p 95) (list_all p xs) line all
 all_marked p false xs line all = all
@@ -173,7 +173,7 @@ some_digit_of base (c ∷ t) any = elim (cases_eq c 95) [
 ]
 
 -- a digit is no `_`
-digit_is_no_line : (base : IntegerBase) (c : ℕ) → is_digit base c ≡ true → is_no_underscore c ≡ true
+pub digit_is_no_line : (base : IntegerBase) (c : ℕ) → is_digit base c ≡ true → is_no_underscore c ≡ true
 digit_is_no_line base c is =
     no_underscore c (λ e. true≢false (sym is ∙ (ap (is_digit base) e ∙ line_is_no_digit base)))
 

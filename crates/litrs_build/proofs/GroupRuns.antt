@@ -6,7 +6,7 @@ use Rattle.std.proofs.lemmas.List.{append_assoc, take-append-drop, length-take-l
 use Rattle.std.proofs.Math.Nat.{mod-lt, mod-eq_of_lt, mod-add-div', add-mul-mod_self_right}
 use Rattle.litrs_build.specs.WrittenDigits.{ends_group, grouped}
 
--- no group ends before so many digits
+-- no group ends within its digits
 within_group : (group after k : ℕ) → 0 < k → after % group ≡ k → ends_group group after ≡ false
 within_group group after k some is =
     and_right (ltb 0 group) _ (and_right (ltb 0 after) _ (ne_eqb (after % group) 0
@@ -60,7 +60,7 @@ grouped_split group (d ∷ e ∷ part) after some few more is =
     (within_group group (length ((e ∷ part) ++ after)) k (omega arith) left)
     ∙ ap (λ t. d ∷ t) (grouped_split group (e ∷ part) after (omega arith) (omega arith) more is)
 
--- what follows the first group has whole groups
+-- the digits after the first group are whole groups
 rest_whole : (group n first : ℕ) → 0 < group → 0 < n → first ≡ (n - 1) % group + 1 →
     (n - first) % group ≡ 0
 rest_whole group n first some more is =

@@ -1,4 +1,4 @@
--- How many hashes a body needs: with fewer a closing stands in it, and with as many none does.
+-- The number of hashes of a body: with fewer it contains a closing, with as many it does not.
 use Rattle.std.proofs.Common.{◌≡◌, ℕ, zero, suc, ◌+◌, ◌≤◌, ◌<◌, Bool, true, false, ◌&&◌, ◌||◌, inl, inr, eqb, leb, ltb, cond, List, [], ◌∷◌, refl, sym, ap, subst, ◌∙◌, arith}
 use Rattle.std.proofs.lemmas.Bool.{cond_both, eqb-true, eqb-false, ne_eqb, ltb-true, ltb-false, lt-ltb, le-ltb, leb-true, le-leb, lt-leb, or_left, or_right}
 use Rattle.litrs_base.specs.Text.{begins_with}
@@ -99,7 +99,7 @@ begins_hashes (suc n) (c ∷ t) =
     ∙ (sym (lt-leb (suc n) 0 (omega arith))
     ∙ ap (λ b. leb (suc n) (cond b (1 + hash_len t) 0)) (sym other)))
 
--- a closing with n hashes stands in the body if and only if more are needed
+-- the body contains a closing with n hashes if and only if more are needed
 pub occurs_needed : (n : ℕ) (t : List ℕ) → occurs (raw_closing n) t ≡ ltb n (hashes_needed t)
 unfolding hashes_needed
 occurs_needed n [] = sym (le-ltb n 0 (omega arith))
@@ -123,7 +123,7 @@ raw_literals_need_hashes unicode allow_nul d raw =
 
 -- Runs, one character at a time
 
--- how long the run will be that goes on before the text
+-- the length of the run that continues before the text
 abbrev pub pending : ℕ → List ℕ → ℕ
 pending run t = cond (ltb 0 run) (run + hash_len t) 0
 
@@ -196,7 +196,7 @@ at_other most p rest within =
     greatest_of most 0 0 p 0 rest (omega (arith, within, a, b)) (omega arith) (omega arith)
     (omega arith)
 
--- no run goes on
+-- no run continues
 pending_within : (run most h : ℕ) → run ≤ most → h ≡ 0 → cond (ltb 0 run) (run + h) 0 ≤ most
 pending_within run most h within none =
     cond_both (ltb 0 run) (run + h) 0 (λ n. n ≤ most) (λ e. omega arith) (λ e. omega arith)

@@ -13,7 +13,7 @@ use Rattle.std.proofs.Math.Nat.{pow-zero, pow-suc}
 use Rattle.litrs_base.specs.Numeral.{place_sum, is_no_underscore, numeral}
 use Rattle.litrs_base.specs.Text.{first_passes}
 
--- what all of a list pass, each of them passes
+-- a test that all of a list pass, each of them passes
 pub passes_at : (p : ℕ → Bool) (t : List ℕ) (i : ℕ) → list_all p t ≡ true → i < length t →
     p (get_or t i 0) ≡ true
 passes_at p [] i all h = absurd (omega arith)
@@ -65,7 +65,7 @@ passes_onto p all (suc k) n acc rest =
     (λ t. list_all p t ≡ true)
     (λ is. more) (λ is. passes_onto p all k (n / 16) (last ∷ acc) more)
 
--- what the sixteen digits pass, those of a number pass
+-- a test that the sixteen digits pass, those of a number pass
 pub digits_pass : (p : ℕ → Bool) → list_all p hex_glyphs ≡ true → (n : ℕ) →
     list_all p (digits 16 false n) ≡ true
 unfolding digits
@@ -109,7 +109,7 @@ digits-numeral n small =
     ap (place_sum 16) (filter_kept is_no_underscore ds (digits_pass is_no_underscore refl n))
     ∙ omega (arith, value, after)
 
--- How many there are.
+-- Their number.
 
 length_onto : (j k n : ℕ) (acc : List ℕ) → n < 16 ^ suc j →
     length (digits_onto k 16 false n acc) ≤ suc j + length acc

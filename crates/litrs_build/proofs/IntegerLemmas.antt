@@ -45,7 +45,7 @@ suffix_parts base suffix h =
       not-true (first_passes (is_digit_or_underscore base) suffix) q.1,
     )
 
--- what the bytes say of it
+-- the same test of the bytes
 pub suffix-chars : (base : IntegerBase) (bs : List ℕ) → IsUtf8 bs →
     is_integer_suffix base (chars bs)
     ≡ (is_suffix (chars bs)
@@ -71,7 +71,7 @@ three z false false true p q r = absurd (true≢false r)
 three true false false false p q r = refl
 three false false false false p q r = refl
 
--- the character after the first is none that ends a prefix
+-- the character after the first does not end a prefix
 second_stops : (c y : ℕ) (t : List ℕ) → is_base_letter y ≡ false → has_prefix (c ∷ y ∷ t) ≡ false
 second_stops c y t none =
     let p = or_parts (eqb y 98) (eqb y 111 || eqb y 120) none in
@@ -107,7 +107,7 @@ marked_stops : (c d : ℕ) (ends : Bool) (t : List ℕ) → is_ascii_digit d ≡
 marked_stops c d true t digit = second_stops c 95 (d ∷ t) refl
 marked_stops c d false t digit = second_stops c d t (digit_stops d (digit_or_line d digit))
 
-ends_at_last : (group : ℕ) → ends_group group 0 ≡ false
+pub ends_at_last : (group : ℕ) → ends_group group 0 ≡ false
 ends_at_last group = and_right (ltb 0 group) _ refl
 
 no_prefix : (group : ℕ) (ds suffix : List ℕ) → 0 < length ds → list_all is_ascii_digit ds ≡ true →
@@ -286,7 +286,7 @@ some_integer base suffix allowed none =
     (is_built base 0 (written_digits base 0) suffix (written-filled base 0)
     (written-pass base 0) allowed) refl refl
 
--- Where a separator is needed, by the main part.
+-- The need of a separator, by the main part.
 
 is_lone : (c : ℕ) (ds : List ℕ) →
     is_text (c ∷ ds) (codes "0") ≡ (eqb (suc (length ds)) 1 && eqb c 48)
@@ -333,7 +333,7 @@ letter-chars bs u = first_passes-chars is_base_letter bs letter_is_ascii u
 
 -- The text of the integer, as bytes.
 
-ascii_all : (p : ℕ → Bool) (t : List ℕ) → OnlyAscii p → list_all p t ≡ true → IsAscii t
+pub ascii_all : (p : ℕ → Bool) (t : List ℕ) → OnlyAscii p → list_all p t ≡ true → IsAscii t
 ascii_all p [] only all = IsAscii-nil
 ascii_all p (c ∷ t) only all =
     let parts = and_parts (p c) (list_all p t) all in

@@ -39,6 +39,8 @@ pub mod CasedDigits
 pub mod CasedSpellings
 pub mod RewrittenItems
 pub mod RewrittenChars
+pub mod RewrittenFloats
 pub mod RewrittenLiterals
+pub mod RewrittenRuns
 pub mod CasedIntegers
 pub mod RewrittenTwice

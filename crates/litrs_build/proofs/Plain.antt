@@ -61,7 +61,7 @@ unfolding byte_spelling
 plain_byte b plain =
     cond-true (is_ascii b) _ _ (grind (arith, nat_tests)) ∙ plain_spelling false b plain
 
--- What passes a test from the front on
+-- The front of a list that passes a test
 
 passes_step : (p : ℕ → Bool) (b : ℕ) (bs : List ℕ) (v : Bool) → p b ≡ v →
     list_all p (take (prefix_len p bs) bs) ≡ true →
@@ -91,7 +91,7 @@ all_ascii (c ∷ t) all =
     IsAscii-cons c t (ascii_from_test is_plain_ascii c plain_is_ascii both.0) (all_ascii t both.1)
 
 -- the text of plain ASCII and of what follows
-coded : (t rest : List ℕ) → list_all is_plain_ascii t ≡ true →
+pub coded : (t rest : List ℕ) → list_all is_plain_ascii t ≡ true →
     encode_utf8_all (t ++ rest) ≡ t ++ encode_utf8_all rest
 coded t rest all = encodes-append t rest
     ∙ ap (λ (x : List ℕ). x ++ encode_utf8_all rest) (plain_stays t all)

@@ -39,7 +39,7 @@ marked p v short lanes =
     ∙ map-same _ p (λ x. mark-top (p x)) v)
     ∙ mask_l-mod (map p v) 64 (omega (arith, length-map v p))
 
--- what the lanes are compared with
+-- the lanes of one byte, with which others are compared
 abbrev is_hit : ℕ → Bool
 is_hit x = ((ltb x 32 || ltb 126 x) || eqb x 34) || eqb x 92
 

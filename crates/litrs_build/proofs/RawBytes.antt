@@ -70,7 +70,7 @@ not_raw_by true true e raw when_suffix when_none = absurd (true≢false raw)
 not_raw_by true false e raw when_suffix when_none = when_suffix refl
 not_raw_by false r e raw when_suffix when_none = when_none refl
 
--- what is not UTF-8 is no raw value
+-- bytes that are not UTF-8 are not a raw value
 pub not_raw : (bs suffix : List ℕ) (e : BuildError) → (IsUtf8 bs → ⊥) →
     (is_suffix suffix ≡ true → e ≡ NotRaw) →
     (is_suffix suffix ≡ false → e ≡ NotASuffix) → IsErrorOf (raw_error false true bs suffix) e

@@ -23,7 +23,7 @@ same_by : (s : Bool) (o : Option BuildError) (u r : Bool) → s ≡ true → o �
     cond (not s) (Some NotASuffix) (cond r None (Some NotRaw)) ≡ or_not_raw o (u && r)
 same_by s o u r a b c = rw (a, b, c) refl
 
--- where a C string has the bytes, the body has the error of the bytes
+-- if a C string has the bytes, the body has the error of the bytes
 pub raw_c_same : (body bytes suffix : List ℕ) → body ≡ bytes → IsUtf8 bytes →
     c_string_error bytes suffix ≡ None →
     raw_error true false (chars body) suffix ≡ raw_c_error bytes suffix
@@ -41,14 +41,14 @@ not_raw_by : (o : Option BuildError) (u r : Bool) → o ≡ None → u ≡ false
     IsErrorOf (or_not_raw o (u && r)) NotRaw
 not_raw_by o u r a b = rw (a, b) refl
 
--- what is not UTF-8 is no raw value
+-- bytes that are not UTF-8 are not a raw value
 pub not_raw_c : (bytes suffix : List ℕ) → (IsUtf8 bytes → ⊥) → c_string_error bytes suffix ≡ None →
     IsErrorOf (raw_c_error bytes suffix) NotRaw
 not_raw_c bytes suffix none possible =
     not_raw_by (c_string_error bytes suffix) (is_utf8 bytes) (is_raw_value true false (chars bytes))
     possible (not_utf8 bytes (is_utf8 bytes) refl none)
 
--- Where no error is expected
+-- If no error is expected
 
 both_by : (o : Option BuildError) (r : Bool) → or_not_raw o r ≡ None → (o ≡ None) × (r ≡ true)
 both_by (Some e) r h = absurd cc

@@ -121,7 +121,7 @@ raw_chars front value suffix bytes n front_is front_scalars v u is =
     (h ++ (34 ∷ (chars value ++ (34 ∷ end)))) front_scalars
     (scalars_append h (34 ∷ (chars value ++ (34 ∷ end))) h_scalars body_scalars)))
 
--- Where no error is expected
+-- If no error is expected
 
 pub possible_by : (s r : Bool) →
     (if not s then Some NotASuffix else (if r then None else Some NotRaw)) ≡ None →

@@ -31,7 +31,7 @@ use Rattle.litrs_build.proofs.CasedSpellings.{Fits, cased_is_item, cased_scalars
 use Rattle.litrs_build.proofs.RewrittenItems.{by_plain, by_escape, simple_low}
 use Rattle.litrs_build.proofs.Spellings.{IsOther, spelling_by}
 
--- what stands for itself between single quotes
+-- a character that may be unescaped between single quotes
 abbrev pub is_plain_char : CharKind → ℕ → Bool
 is_plain_char kind c =
     not (c == 39) && not (c == 92) && not (is_special_whitespace c) && allows_char kind c
@@ -150,7 +150,7 @@ own_number (simple_escape c) = refl
 own_number (hex_escape high low) = refl
 own_number (unicode_escape inner) = refl
 
--- What holds of each rewriting of an item that may occur holds of the item's rewriting
+-- A property of each possible rewriting of an item is a property of its rewriting
 
 pub by_char : (kind : CharKind) (style : Style) (item : CharItem) →
     is_char_item kind item ≡ true → scalars (char_item_text item) ≡ true →

@@ -97,7 +97,7 @@ spelled_escape w before (unicode_escape inner) is =
     let fits = own_fits w (is_plain w) (unicode_escape inner) is in
     spelled_char w before (hex_value inner) fits.1 (or_left w.unicode _ fits.0) fits.2
 
--- What holds of each rewriting of an item that may occur holds of the item's rewriting
+-- A property of each possible rewriting of an item is a property of its rewriting
 
 -- a continuation stays only where lines are kept
 abbrev KeepsLines : Style → Item → Type 0

@@ -38,6 +38,7 @@ use Rattle.litrs_build.specs.declared.rewriting.Rewriting.{Rewriting}
 use Rattle.litrs_build.specs.declared.style.Case.{Case}
 use Rattle.litrs_build.specs.declared.style.Style.{Style}
 use Rattle.litrs_build.proofs.CasedIntegers.{rewritten_is_integer, rewritten_integer-value}
+use Rattle.litrs_build.proofs.RewrittenFloats.{rewritten_is_float, rewritten_float-number}
 use Rattle.litrs_build.proofs.RewrittenItems.{IsBodyLike, rewritten_body, scalars_parts}
 use Rattle.litrs_build.proofs.RewrittenChars.{IsCharLike, rewritten_item, as_item_text, char_is_any, char_takes}
 use Rattle.litrs_build.proofs.Spellings.{scalars_append}
@@ -183,7 +184,7 @@ pub rewritten_like : (style : Style) (bytes : List ℕ) (d : Derivation) → IsU
 rewritten_like style bytes (a_bool b) u is = (refl, refl)
 rewritten_like style bytes (an_integer d) u is =
     ((refl, rewritten_integer-value style d is.grammar), refl)
-rewritten_like style bytes (a_float d) u is = (refl, refl)
+rewritten_like style bytes (a_float d) u is = (rewritten_float-number style d is.grammar, refl)
 rewritten_like style bytes (a_char d) u is =
     ((rewritten_is_char char_kind style bytes d u is).value, refl)
 rewritten_like style bytes (a_byte d) u is =
@@ -206,7 +207,7 @@ rewritten_literal style bytes text d u is written =
         IsLiteral (chars bytes) d → AreParts (rewritten style d)
     parts style bytes (a_bool b) u is = tt
     parts style bytes (an_integer d) u is = rewritten_is_integer style d is.grammar
-    parts style bytes (a_float d) u is = is.grammar
+    parts style bytes (a_float d) u is = rewritten_is_float style d is.grammar
     parts style bytes (a_char d) u is = (rewritten_is_char char_kind style bytes d u is).parts
     parts style bytes (a_byte d) u is = (rewritten_is_char byte_kind style bytes d u is).parts
     parts style bytes (a_string d) u is =

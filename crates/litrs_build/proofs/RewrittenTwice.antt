@@ -6,7 +6,6 @@ use Rattle.std.specs.List.{list_all, list_any}
 use Rattle.std.specs.Str.{chars, IsUtf8}
 use Rattle.std.proofs.lemmas.Bool.{and_parts, cond_both, cases_eq, lt-ltb, ltb-true, ne_eqb, not_from_false, true≢false}
 use Rattle.std.proofs.lemmas.Str.{scalars-chars}
-use Rattle.std.proofs.lemmas.Str.Ascii.{uppercase-uppercase}
 use lib.Utf8.{scalar, scalars, low_scalar}
 use Rattle.litrs_base.proofs.ListTests.{if_true, if_false}
 use Rattle.litrs_base.specs.Characters.{is_ascii, is_blank}
@@ -45,11 +44,12 @@ use Rattle.litrs_build.specs.declared.style.Escapes.{Escapes}
 use Rattle.litrs_build.specs.declared.style.Escapes.TheVariants.{Kept as escapes_kept, Respelled, Needed}
 use Rattle.litrs_build.specs.declared.style.Lines.{Lines}
 use Rattle.litrs_build.specs.declared.style.Lines.TheVariants.{Kept as lines_kept, Joined}
-use Rattle.litrs_build.proofs.CasedIntegers.{line_at, line_back, cased_digits}
-use Rattle.litrs_build.proofs.GroupLemmas.{filter_at, lower_twice}
+use Rattle.litrs_build.proofs.CasedIntegers.{cased_digits, cased_twice, line_same}
+use Rattle.litrs_build.proofs.GroupLemmas.{filter_at}
 use Rattle.litrs_build.proofs.CasedSpellings.{cased_pair, number_is, own_fits, blank_small}
 use Rattle.litrs_build.proofs.IntegerLemmas.{digits_left}
 use Rattle.litrs_build.proofs.RewrittenChars.{as_item_text}
+use Rattle.litrs_build.proofs.RewrittenFloats.{float_twice}
 use Rattle.litrs_build.proofs.RewrittenItems.{scalars_parts, simple_low}
 use Rattle.litrs_build.proofs.RewrittenLiterals.{item_scalars}
 use Rattle.litrs_build.proofs.Spellings.{IsOther, spelling_by, or_false}
@@ -200,7 +200,7 @@ stable_line_feed style q before Needed is =
     inr (ap (λ (x : Escapes). escape_rewriting x q before (simple_escape 110)) is
     ∙ ap (λ (t : Spelling). Spelled t) (line_feed_needed q before))
 
--- What holds of each rewriting of an item that may occur holds of the item's rewriting
+-- A property of each possible rewriting of an item is a property of its rewriting
 
 by_plain : (escapes : Escapes) (q : ℕ) (before : Before) (c : ℕ) (P : Rewriting → Type 0) →
     P Unchanged → (escapes ≡ Needed → P (Spelled (needed_char q before c))) →
@@ -371,11 +371,6 @@ char_twice kind style bytes d u is =
 
 -- Integers
 
-cased_twice : (case : Option Case) (c : ℕ) → cased case (cased case c) ≡ cased case c
-cased_twice None c = refl
-cased_twice (Some Lower) c = lower_twice c
-cased_twice (Some Upper) c = uppercase-uppercase c
-
 map_twice : (case : Option Case) (t : List ℕ) →
     map (cased case) (map (cased case) t) ≡ map (cased case) t
 map_twice case [] = refl
@@ -387,12 +382,6 @@ none_filtered (c ∷ t) none =
     let both = or_false (c == 95) (list_any is_underscore t) none in
     filter_at c t (not_from_false (c == 95) both.0)
     ∙ ap (λ (l : List ℕ). c ∷ l) (none_filtered t both.1)
-
-line_same : (case : Option Case) (c : ℕ) → (cased case c == 95) ≡ (c == 95)
-line_same case c = elim (cases_eq c 95) [
-  | inl is ↦ ap (λ (n : ℕ). n == 95) (ap (cased case) is ∙ (line_at case ∙ sym is))
-  | inr ne ↦ ne_eqb (cased case c) 95 (λ e. ne (line_back case c e)) ∙ sym (ne_eqb c 95 ne)
-]
 
 any_line : (case : Option Case) (t : List ℕ) →
     list_any is_underscore (map (cased case) t) ≡ list_any is_underscore t
@@ -456,7 +445,7 @@ pub rewritten_twice : (style : Style) (bytes : List ℕ) (d : Derivation) → Is
     IsLiteral (chars bytes) d → rewritten style (rewritten style d) ≡ rewritten style d
 rewritten_twice style bytes (a_bool b) u is = refl
 rewritten_twice style bytes (an_integer d) u is = ap an_integer (integer_twice style d is.grammar)
-rewritten_twice style bytes (a_float d) u is = refl
+rewritten_twice style bytes (a_float d) u is = ap a_float (float_twice style d is.grammar)
 rewritten_twice style bytes (a_char d) u is = ap a_char (char_twice char_kind style bytes d u is)
 rewritten_twice style bytes (a_byte d) u is = ap a_byte (char_twice byte_kind style bytes d u is)
 rewritten_twice style bytes (a_string d) u is =

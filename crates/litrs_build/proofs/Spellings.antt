@@ -47,7 +47,7 @@ pub record IsOther (q c : ℕ) : Type 0 where
   pub quote : eqb c q ≡ false
   pub backslash : eqb c 92 ≡ false
 
--- what holds of the six rows of short escapes and of the three below holds of a character's
+-- a property of the six rows of short escapes and of the three below is one of a character's
 pub spelling_by : (q : ℕ) (m : Bool) (c : ℕ) (P : Spelling → Type 0) →
     (c ≡ 0 → P (Simple 48)) → (c ≡ 9 → P (Simple 116)) → (c ≡ 10 → P (Simple 110)) →
     (c ≡ 13 → P (Simple 114)) →
@@ -132,7 +132,7 @@ item_fits w (Simple c) = refl
 item_fits w (Hex b) = refl
 item_fits w (Unicode c) = refl
 
--- what stands for itself between single quotes
+-- a character that may be unescaped between single quotes
 abbrev plain_char_in : CharKind → ℕ → Bool
 plain_char_in kind c = not (eqb c 39) && not (eqb c 92) && not (is_special_whitespace c)
     && allows_char kind c

@@ -16,6 +16,7 @@ pub mod WrittenAnew
 pub mod Rewriting
 pub mod BodyItem
 pub mod RewrittenInteger
+pub mod RewrittenFloat
 -- errors and their messages
 pub mod Errors
 pub mod ErrorText

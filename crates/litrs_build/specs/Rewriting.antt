@@ -3,6 +3,7 @@
 -- continuation escapes".
 use Rattle.std.specs.Prelude.{ℕ, ◌/◌, ◌%◌, Bool, true, false, ◌==◌, List, [], ◌∷◌, ◌++◌, if◌then◌else◌}
 use Rattle.std.specs.Fmt.{digits, digit_glyph}
+use Rattle.std.specs.List.{prefix_len}
 use Rattle.litrs_base.specs.declared.escape.Unescape.{Unescape}
 use Rattle.litrs_base.specs.declared.escape.Unescape.TheVariants.{Byte, Unicode as unicode_value}
 use Rattle.litrs_base.specs.Characters.{line_feed, single_quote, double_quote, letter_n, is_ascii, is_blank}
@@ -10,7 +11,9 @@ use Rattle.litrs_grammar.specs.Escape.{Escape, simple_escape, hex_escape, unicod
 use Rattle.litrs_grammar.specs.CharByte.{CharItem, plain_char, escaped_char, CharParts}
 use Rattle.litrs_grammar.specs.Quoted.{Item, plain_item, escape_item, continuation}
 use Rattle.litrs_grammar.specs.Literal.{StringParts, quoted_parts, raw_parts, Derivation, a_bool, an_integer, a_float, a_char, a_byte, a_string, a_byte_string, a_c_string}
+use Rattle.litrs_build.specs.RewrittenFloat.{rewritten_float}
 use Rattle.litrs_build.specs.RewrittenInteger.{rewritten_integer}
+use Rattle.litrs_build.specs.Pieces.{is_plain_ascii}
 use Rattle.litrs_build.specs.Spelling.{char_spelling}
 use Rattle.litrs_build.specs.Written.{quoted_of}
 use Rattle.litrs_build.specs.declared.rewriting.Before.{Before}
@@ -66,6 +69,12 @@ is_mark Continuation = true
 abbrev pub after_blanks : Before → Spelling → Spelling
 after_blanks Continuation (Plain c) = if is_blank c then Hex c else Plain c
 after_blanks _ spelling = spelling
+
+-- The length of the plain ASCII at the front of the bytes, which is written as it is in every
+-- style. After a continuation it is 0.
+abbrev pub run_len : Before → List ℕ → ℕ
+run_len Continuation bytes = 0
+run_len _ bytes = prefix_len is_plain_ascii bytes
 
 -- The spelling of a character that has only the escapes that are needed.
 abbrev pub needed_char : (quote : ℕ) → Before → ℕ → Spelling
@@ -156,11 +165,11 @@ rewritten_char style d = record {
   suffix = d.suffix;
 }
 
--- A literal rewritten in the style. Bools and floats are unchanged.
+-- A literal rewritten in the style. Bools are unchanged.
 abbrev pub rewritten : Style → Derivation → Derivation
 rewritten style (a_bool b) = a_bool b
 rewritten style (an_integer d) = an_integer (rewritten_integer style d)
-rewritten style (a_float d) = a_float d
+rewritten style (a_float d) = a_float (rewritten_float style d)
 rewritten style (a_char d) = a_char (rewritten_char style d)
 rewritten style (a_byte d) = a_byte (rewritten_char style d)
 rewritten style (a_string d) = a_string (rewritten_string style d)

@@ -155,7 +155,7 @@ fn is_exponent(bytes: &[u8]) -> bool
 }
 
 /// Returns the length of the sign that comes first: 0 or 1.
-fn sign_len(bytes: &[u8]) -> usize
+pub(crate) fn sign_len(bytes: &[u8]) -> usize
     ensures len { result ≡ sign_len bytes.now }
     ensures within { result ≤ length bytes.now }
 {

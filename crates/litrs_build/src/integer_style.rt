@@ -57,7 +57,7 @@ fn group_of(groups: Groups, base: IntegerBase, main: &[u8]) -> Option<usize>
 }
 
 /// Returns `true` if `main` contains `_`.
-fn has_underscore(main: &[u8]) -> bool
+pub(crate) fn has_underscore(main: &[u8]) -> bool
     ensures { result ≡ list_any is_underscore main.now }
 {
     main.iter().any(|byte| *byte == b'_')
@@ -132,7 +132,7 @@ fn grouped_text(
 }
 
 /// Returns the number of digits among these digits and underscores.
-fn count_digits(main: &[u8]) -> usize
+pub(crate) fn count_digits(main: &[u8]) -> usize
     ensures { result ≡ length (filter is_no_underscore main.now) }
 {
     main.iter().filter(|byte| **byte != b'_').count()
@@ -151,7 +151,7 @@ fn push_cased(text: &mut String, main: &[u8], case: Option<Case>) -> Result<(), 
 }
 
 /// Appends the digits, whose number is `digits`, in groups and in this case.
-fn push_cased_groups(
+pub(crate) fn push_cased_groups(
     text: &mut String,
     main: &[u8],
     digits: usize,
@@ -175,7 +175,7 @@ fn push_cased_groups(
 }
 
 /// Returns `byte` in this case.
-fn cased(case: Option<Case>, byte: u8) -> u8
+pub(crate) fn cased(case: Option<Case>, byte: u8) -> u8
     ensures value { result ≡ cased case byte }
     ensures ascii { byte < 128 → result < 128 }
 {

@@ -412,7 +412,7 @@ fn push_groups(text: &mut String, digits: &[u8], group: usize) -> Result<(), All
 }
 
 /// Appends bytes that are ASCII.
-fn push_ascii(text: &mut String, bytes: &[u8]) -> Result<(), AllocError>
+pub(crate) fn push_ascii(text: &mut String, bytes: &[u8]) -> Result<(), AllocError>
     requires { IsAscii bytes.now }
     ensures { OnOk result (string_bytes text.new ≡ string_bytes text.old ++ bytes.now) }
 {

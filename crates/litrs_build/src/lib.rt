@@ -54,7 +54,7 @@ pub use printable::is_printable;
 pub use raw::{raw_byte_string, raw_c_string, raw_string};
 pub use rewriting::rewritten;
 pub use strings::string;
-pub use style::{Case, Escapes, GroupLens, Groups, Lines, Style};
+pub use style::{Case, Escapes, FloatGroupLens, FloatGroups, GroupLens, Groups, Lines, Style};
 
 mod again;
 mod body_item;
@@ -62,6 +62,7 @@ mod byte_strings;
 mod c_strings;
 mod chars;
 mod error;
+mod float_style;
 mod floats;
 mod integer_style;
 mod integers;

@@ -1,5 +1,5 @@
 //! Literals that are rewritten in a style.
-ghost use Rattle.std.specs.Prelude.{◌≡◌, ◌<◌, ◌==◌, ◌++◌, ◌∷◌, ℕ, List, true, length, IfOk, OnOk, string_bytes, encode_utf8_all, if◌then◌else◌};
+ghost use Rattle.std.specs.Prelude.{◌≡◌, ◌<◌, ◌≤◌, ◌==◌, ◌++◌, ◌∷◌, ℕ, List, true, length, IfOk, OnOk, string_bytes, encode_utf8_all, if◌then◌else◌};
 ghost use Rattle.std.specs.Fmt.{digits};
 ghost use Rattle.std.specs.Str.{chars};
 ghost use Rattle.litrs_base.specs.Characters.{line_feed, double_quote};
@@ -14,11 +14,13 @@ ghost use Rattle.litrs_grammar.specs.Quoted.{Item, item_text, body_text, QuotedP
 ghost use Rattle.litrs_grammar.specs.Strings.{is_raw};
 ghost use Rattle.litrs.specs.LiteralDerivation.{derivation};
 ghost use Rattle.litrs_build.specs.BodyItem.{Reads, BeginsWithItem, IsBody};
-ghost use Rattle.litrs_build.specs.Rewriting.{is_mark, after_blanks, needed_char, needed_spelling, plain_rewriting, escape_rewriting, line_feed_rewriting, continuation_rewriting, item_rewriting, before_after, items_of, cased_item, cased_digit, rewritten, rewritten_items, rewritten_string, rewritten_char};
+ghost use Rattle.litrs_build.specs.Rewriting.{is_mark, after_blanks, run_len, needed_char, needed_spelling, plain_rewriting, escape_rewriting, line_feed_rewriting, continuation_rewriting, item_rewriting, before_after, items_of, cased_item, cased_digit, rewritten, rewritten_items, rewritten_string, rewritten_char};
 ghost use Rattle.litrs_build.specs.WrittenAnew.{HaveSameValue};
 
 use crate::body_item::{BodyItem, read_item, starts_with};
+use crate::float_style::rewritten_float;
 use crate::integer_style::rewritten_integer;
+use crate::pieces::plain_len;
 use crate::spelling::Spelling;
 use crate::style::{Case, Escapes, Lines, Style};
 use litrs::{Literal, Text};
@@ -29,7 +31,7 @@ use std::fmt::Write;
 /// Returns the text of `lit`, rewritten in `style`: for `"\x4A"` and the escapes that are needed,
 /// that is `"J"`. The text is a literal with the kind, the value and the suffix of `lit`.
 ///
-/// Bools, floats and raw strings keep their text. A second call in the same style changes nothing.
+/// Bools and raw strings keep their text. A second call in the same style changes nothing.
 ///
 /// There is one allocation, if the text is not longer than that of `lit`. Otherwise, a text with
 /// quotes may be allocated again while it grows.
@@ -73,7 +75,7 @@ fn rewritten_text<B: Text>(
     match lit {
         Literal::Bool(_) => String::from_str(alloc, raw),
         Literal::Integer(lit) => rewritten_integer(alloc, lit, style),
-        Literal::Float(_) => String::from_str(alloc, raw),
+        Literal::Float(lit) => rewritten_float(alloc, lit, style),
         Literal::Char(_) => rewritten_char(alloc, raw, CharKind::Char, style),
         Literal::Byte(_) => rewritten_char(alloc, raw, CharKind::Byte, style),
         Literal::String(lit) => {
@@ -154,6 +156,13 @@ fn push_body(
     let mut rest = body;
     let mut before = Before::Mark;
     while !starts_with(rest.as_bytes(), b'"') {
+        let run = run_len(rest.as_bytes(), before);
+        if run > 0 {
+            text.push_str(&rest[..run])?;
+            before = Before::Text;
+            rest = &rest[run..];
+            continue;
+        }
         let (item, len) = read_item(rest, allowed);
         let rewriting = rewriting_of(item, '"', before, style);
         push_rewriting(text, &rest[..len], rewriting, style.escape_digits)?;
@@ -162,6 +171,18 @@ fn push_body(
     }
     text.push_str(rest)?;
     Ok(())
+}
+
+/// Returns the length of the plain ASCII that `rest` starts with, which is written as it is. It is
+/// 0 after a continuation.
+fn run_len(rest: &[u8], before: Before) -> usize
+    ensures len { result ≡ run_len before rest.now }
+    ensures within { result ≤ length rest.now }
+{
+    match before {
+        Before::Text | Before::Mark => plain_len(rest),
+        Before::Continuation => 0,
+    }
 }
 
 /// Returns the text of a char or a byte, rewritten.

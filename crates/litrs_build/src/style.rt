@@ -13,6 +13,10 @@ pub struct Style {
     pub digits: Option<Case>,
     /// The groups of the digits of integers.
     pub groups: Groups,
+    /// The case of the letter of exponents, or `None` if each stays as it is.
+    pub exponents: Option<Case>,
+    /// The groups of the digits of floats.
+    pub float_groups: FloatGroups,
 }
 
 /// The escapes between quotes.
@@ -27,7 +31,7 @@ pub enum Escapes {
     Needed,
 }
 
-/// The case of hex digits.
+/// The case of hex digits, or of the letter of an exponent.
 #[derive(Clone, Copy, Debug, PartialEq, Eq)]
 pub enum Case {
     /// `a` to `f`.
@@ -68,4 +72,26 @@ pub struct GroupLens {
     pub decimal: usize,
     /// The number in base sixteen.
     pub hexadecimal: usize,
+}
+
+/// The groups of the digits of floats.
+#[derive(Clone, Copy, Debug, PartialEq, Eq)]
+pub enum FloatGroups {
+    /// Each `_` stays where it is.
+    Kept,
+    /// The digits of a float with a `_` before the suffix are written in groups. Other floats stay.
+    Regrouped(FloatGroupLens),
+    /// The digits of all floats are written in groups.
+    Grouped(FloatGroupLens),
+}
+
+/// The number of digits of a group in each part of a float. If it is 0, the part has no groups.
+#[derive(Clone, Copy, Debug, PartialEq, Eq)]
+pub struct FloatGroupLens {
+    /// The number in the integer part, counted from the last digit.
+    pub integer: usize,
+    /// The number in the fraction, counted from the first digit.
+    pub fraction: usize,
+    /// The number in the exponent, counted from the last digit.
+    pub exponent: usize,
 }

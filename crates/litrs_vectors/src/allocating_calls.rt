@@ -6,7 +6,7 @@ use crate::tokens::{Token, token_of};
 use crate::trial::{Place, Trial, again};
 use litrs::{BoolLit, Literal};
 use litrs_base::Unescape;
-use litrs_build::{Case, Escapes, GroupLens, Groups, Lines, Style};
+use litrs_build::{Case, Escapes, FloatGroupLens, FloatGroups, GroupLens, Groups, Lines, Style};
 use litrs_explanation::explanation;
 use litrs_lex::{
     EscapeContainer, InByteString, InCString, InString, unescape_string, unescape_string_with,
@@ -110,6 +110,12 @@ fn respelled() -> Style {
             octal: 4,
             decimal: 3,
             hexadecimal: 4,
+        }),
+        exponents: Some(Case::Lower),
+        float_groups: FloatGroups::Grouped(FloatGroupLens {
+            integer: 3,
+            fraction: 3,
+            exponent: 3,
         }),
     }
 }

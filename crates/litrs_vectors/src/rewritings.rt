@@ -4,7 +4,9 @@ use crate::parses::{Parse, buffer_name, discard, parsed};
 use crate::rows::Row;
 use crate::trial::{Trial, again};
 use litrs::{Literal, Text};
-use litrs_build::{Case, Escapes, GroupLens, Groups, Lines, Style, rewritten};
+use litrs_build::{
+    Case, Escapes, FloatGroupLens, FloatGroups, GroupLens, Groups, Lines, Style, rewritten,
+};
 
 /// The style that changes nothing.
 const KEPT: Style = Style {
@@ -13,6 +15,8 @@ const KEPT: Style = Style {
     lines: Lines::Kept,
     digits: None,
     groups: Groups::Kept,
+    exponents: None,
+    float_groups: FloatGroups::Kept,
 };
 
 /// Tries the literal of a row, rewritten in the style of the row, over both buffers. Rewritten
@@ -74,20 +78,24 @@ fn with_word(mut style: Style, word: &str) -> Option<Style> {
         "joined" => style.lines = Lines::Joined,
         "digits=lower" => style.digits = Some(Case::Lower),
         "digits=upper" => style.digits = Some(Case::Upper),
-        _ => style.groups = groups_of(word)?,
+        "exponents=lower" => style.exponents = Some(Case::Lower),
+        "exponents=upper" => style.exponents = Some(Case::Upper),
+        _ => return with_groups(style, word),
     }
     Some(style)
 }
 
-/// Returns the groups that a word sets.
-fn groups_of(word: &str) -> Option<Groups> {
+/// Returns a style with the groups that a word sets.
+fn with_groups(mut style: Style, word: &str) -> Option<Style> {
     let (name, lens) = word.split_once('=')?;
-    let lens = lens_of(lens)?;
     match name {
-        "regrouped" => Some(Groups::Regrouped(lens)),
-        "grouped" => Some(Groups::Grouped(lens)),
-        _ => None,
+        "regrouped" => style.groups = Groups::Regrouped(lens_of(lens)?),
+        "grouped" => style.groups = Groups::Grouped(lens_of(lens)?),
+        "floats_regrouped" => style.float_groups = FloatGroups::Regrouped(float_lens_of(lens)?),
+        "floats_grouped" => style.float_groups = FloatGroups::Grouped(float_lens_of(lens)?),
+        _ => return None,
     }
+    Some(style)
 }
 
 /// Returns the numbers of digits of a group in base 2, 8, 10 and 16, with commas between them.
@@ -98,5 +106,16 @@ fn lens_of(text: &str) -> Option<GroupLens> {
         octal: lens.next()?.parse::<usize>().ok()?,
         decimal: lens.next()?.parse::<usize>().ok()?,
         hexadecimal: lens.next()?.parse::<usize>().ok()?,
+    })
+}
+
+/// Returns the numbers of digits of a group in the integer part, the fraction and the exponent,
+/// with commas between them.
+fn float_lens_of(text: &str) -> Option<FloatGroupLens> {
+    let mut lens = text.split(',');
+    Some(FloatGroupLens {
+        integer: lens.next()?.parse::<usize>().ok()?,
+        fraction: lens.next()?.parse::<usize>().ok()?,
+        exponent: lens.next()?.parse::<usize>().ok()?,
     })
 }

@@ -1,5 +1,5 @@
 -- A character, a continuation or an escape, by the first two bytes.
-use Rattle.std.proofs.Common.{◌≡◌, true, false, length, take, drop, ◌-◌, ◌+◌, ℕ, sym, ap, ◌∙◌}
+use Rattle.std.proofs.Common.{◌≡◌, true, length, take, drop, ◌-◌, ◌+◌, ℕ, sym, ap, ◌∙◌}
 use Rattle.std.proofs.lemmas.List.{take_rest}
 use Rattle.litrs_base.specs.Text.{first_passes}
 use Rattle.litrs_lex.proofs.EscapeEnds.{slash_byte}

@@ -1,4 +1,4 @@
--- What has been appended, and what the rest would append after it, are the whole.
+-- The bytes so far, and those that the rest adds, are all bytes.
 use Rattle.std.proofs.Common.{◌≡◌, ◌++◌, true, length, encode_utf8_all, string_bytes}
 use Rattle.litrs_grammar.specs.Quoted.{body_text}
 use Rattle.litrs_build.specs.CStrings.{c_items}

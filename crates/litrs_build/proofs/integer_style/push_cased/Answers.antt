@@ -1,5 +1,5 @@
 -- One more character.
-use Rattle.std.proofs.Common.{◌≡◌, ℕ, List, [], ◌∷◌, ◌≤◌, ◌+◌, ◌++◌, length, map, drop, get_or, string_bytes, sym, ap, ◌∙◌, arith}
+use Rattle.std.proofs.Common.{ℕ, List, [], ◌∷◌, ◌≤◌, ◌+◌, ◌++◌, length, map, drop, get_or, string_bytes, sym, ap, ◌∙◌, arith}
 use Rattle.std.proofs.lemmas.List.{append_assoc, append-nil, drop_more, drop_all}
 use Rattle.litrs_build.specs.RewrittenInteger.{cased}
 use Rattle.litrs_build.proofs.integer_style.push_cased.Goals as goal

@@ -1,4 +1,4 @@
--- What is written, and the characters that follow, are all characters.
+-- The characters so far, and those that follow, are all characters.
 use Rattle.std.proofs.Common.{◌≡◌, ◌++◌, map, drop, string_bytes}
 use Rattle.litrs_build.specs.RewrittenInteger.{cased}
 use Rattle.litrs_build.proofs.integer_style.push_cased.Given as goal

@@ -1,4 +1,4 @@
--- What is written, and the digits that follow, are all digits.
+-- The digits so far, and those that follow, are all digits.
 use Rattle.std.proofs.Common.{◌≡◌, ◌++◌, length, map, drop, string_bytes}
 use Rattle.std.specs.Prelude.{filter}
 use Rattle.litrs_base.specs.Numeral.{is_no_underscore}

@@ -1,4 +1,4 @@
--- What is written, and the digits that follow in groups, are all digits.
+-- The digits so far, and those that follow in groups, are all digits.
 use Rattle.std.proofs.Common.{◌≡◌, ◌++◌, length, string_bytes}
 use Rattle.std.specs.Str.{IsAscii}
 use Rattle.litrs_build.specs.WrittenDigits.{grouped}

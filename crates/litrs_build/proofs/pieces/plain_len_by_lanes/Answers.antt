@@ -1,4 +1,4 @@
--- Where no byte of a step is another one, the plain bytes go on after it; else they end at the
+-- If all bytes of a step are plain, the plain bytes continue after it; else they end at the
 -- lowest.
 use Rattle.std.proofs.Common.{◌≡◌, ℕ, ◌+◌, ◌-◌, not, map, List, take, drop, length, refl, sym, ap, ◌∙◌, arith}
 use Rattle.std.proofs.Math.Bool.{not-not}

@@ -1,4 +1,4 @@
--- The longest run so far, the one that goes on, and those of the rest give that of the whole.
+-- The longest run so far, the one that continues, and those of the rest have the longest of all.
 use Rattle.std.proofs.Common.{◌≡◌, ◌+◌, ◌≤◌, chars, IsUtf8, length}
 use Rattle.std.specs.Str.Iter.{chars_rest}
 use Rattle.litrs_build.specs.Raw.{greater, hashes_needed}

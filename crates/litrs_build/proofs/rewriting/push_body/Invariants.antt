@@ -1,5 +1,5 @@
--- What has been appended, and what the rest would append after it, are the whole.
-use Rattle.std.proofs.Common.{◌≡◌, ◌++◌, ◌∷◌, List, ℕ, length, encode_utf8_all, string_bytes}
+-- The text so far, and the items of the rest, rewritten, are the whole text.
+use Rattle.std.proofs.Common.{◌++◌, ◌∷◌, List, ℕ, length, encode_utf8_all, string_bytes}
 use denote.Text.{Utf8}
 use denote.Shadow.{shadow}
 use Rattle.litrs_grammar.specs.Quoted.{Item, body_text}

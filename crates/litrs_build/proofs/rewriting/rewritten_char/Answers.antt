@@ -1,5 +1,5 @@
 -- The item is read after the front, and the closing quote and the suffix follow it.
-use Rattle.std.proofs.Common.{◌≡◌, ℕ, List, ◌∷◌, ◌++◌, length, take, drop, refl, sym, ap, ◌∙◌, subst, string_bytes}
+use Rattle.std.proofs.Common.{ℕ, List, ◌∷◌, ◌++◌, drop, sym, ap, ◌∙◌, subst, string_bytes}
 use Rattle.std.specs.Str.{IsCharBoundary}
 use Rattle.litrs_build.specs.BodyItem.{IsItemRead}
 use Rattle.litrs_build.specs.Rewriting.{as_item}

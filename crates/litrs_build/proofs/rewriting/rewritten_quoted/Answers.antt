@@ -1,5 +1,5 @@
 -- The front, and the body after it.
-use Rattle.std.proofs.Common.{◌≡◌, ℕ, drop, sym, ap, ◌∙◌, subst, string_bytes}
+use Rattle.std.proofs.Common.{ℕ, drop, sym, ap, ◌∙◌, subst, string_bytes}
 use Rattle.std.specs.Str.{IsCharBoundary}
 use Rattle.litrs_build.proofs.RewrittenLiterals.{quoted_fronted, quoted_body, quoted_bytes, quoted_place}
 use Rattle.litrs_build.proofs.rewriting.rewritten_quoted.Goals as goal

@@ -1,0 +1,208 @@
+-- A run of plain ASCII in a body is written as it is.
+use Rattle.std.proofs.Common.{◌≡◌, ℕ, ◌<◌, ◌&&◌, ◌||◌, inl, inr, ◌⊎◌, Bool, true, false, List, [], ◌∷◌, ◌++◌, map, length, take, drop, refl, sym, ap, subst, ◌∙◌, arith}
+use Rattle.std.specs.Prelude.{◌==◌, encode_utf8_all}
+use Rattle.std.specs.List.{list_all, prefix_len}
+use Rattle.std.specs.Str.{chars, IsUtf8, IsCharBoundary}
+use Rattle.std.proofs.lemmas.Bool.{and_parts, ne_eqb, true≢false}
+use Rattle.std.proofs.lemmas.Bool.Decides.{nat_tests}
+use Rattle.std.proofs.lemmas.List.{append_assoc, length-take-le, take-append-drop}
+use Rattle.litrs_base.proofs.Chars.{passing_front}
+use Rattle.litrs_base.proofs.ListTests.{if_false}
+use Rattle.litrs_base.specs.declared.quotes.Switches.{Switches}
+use Rattle.litrs_grammar.specs.Escape.{Escape, simple_escape, hex_escape, unicode_escape}
+use Rattle.litrs_grammar.specs.Quoted.{Item, plain_item, escape_item, continuation, item_text, body_text, is_item, is_body, takes_all_blanks}
+use Rattle.litrs_build.specs.BodyItem.{IsBody}
+use Rattle.litrs_build.specs.Pieces.{is_plain_ascii}
+use Rattle.litrs_build.specs.Rewriting.{after_blanks, before_after, is_mark, item_rewriting, items_of, line_feed_rewriting, needed_char, plain_rewriting, rewritten_items, run_len}
+use Rattle.litrs_build.specs.declared.rewriting.Before.{Before}
+use Rattle.litrs_build.specs.declared.rewriting.Before.TheVariants.{Text, Mark, Continuation}
+use Rattle.litrs_build.specs.declared.rewriting.Rewriting.{Rewriting}
+use Rattle.litrs_build.specs.declared.rewriting.Rewriting.TheVariants.{Unchanged, Spelled}
+use Rattle.litrs_build.specs.declared.spelling.Spelling.{Spelling}
+use Rattle.litrs_build.specs.declared.spelling.Spelling.TheVariants.{Plain}
+use Rattle.litrs_build.specs.declared.style.Escapes.{Escapes}
+use Rattle.litrs_build.specs.declared.style.Escapes.TheVariants.{Kept, Respelled, Needed}
+use Rattle.litrs_build.specs.declared.style.Style.{Style}
+use Rattle.litrs_build.proofs.Plain.{coded, front_passes, plain_cut, plain_is_ascii, plain_spelling}
+use Rattle.litrs_build.proofs.RewrittenLiterals.{IsLeft}
+
+-- The items of a run
+
+record IsSplit (w : Switches) (plain cs suffix : List ℕ) (items : List Item) : Type 0 where
+  others : List Item
+  items_are : items ≡ map plain_item plain ++ others
+  rest : cs ≡ body_text others ++ 34 ∷ suffix
+  body : is_body w others ≡ true
+
+no_mark : (c d : ℕ) → is_plain_ascii c ≡ true → (d ≡ 34) ⊎ (d ≡ 92) → c ≡ d → ⊥
+no_mark c d plain mark same = grind (arith, nat_tests)
+
+more : (w : Switches) (c : ℕ) (plain cs suffix : List ℕ) (items : List Item) →
+    IsSplit w plain cs suffix items → IsSplit w (c ∷ plain) cs suffix (plain_item c ∷ items)
+more w c plain cs suffix items split = record {
+  others = split.others;
+  items_are = ap (λ (l : List Item). plain_item c ∷ l) split.items_are;
+  rest = split.rest;
+  body = split.body;
+}
+
+split_plain : (w : Switches) (plain cs suffix : List ℕ) (items : List Item) →
+    list_all is_plain_ascii plain ≡ true → plain ++ cs ≡ body_text items ++ 34 ∷ suffix →
+    is_body w items ≡ true → IsSplit w plain cs suffix items
+split_plain w [] cs suffix items all same body = record {
+  others = items;
+  items_are = refl;
+  rest = same;
+  body = body;
+}
+split_plain w (c ∷ plain) cs suffix [] all same body =
+    let first : c ≡ 34 = cc in
+    absurd (no_mark c 34 (and_parts (is_plain_ascii c) _ all).0 (inl refl) first)
+split_plain w (c ∷ plain) cs suffix (plain_item d ∷ items) all same body =
+    let first : c ≡ d = cc in
+    let rest : plain ++ cs ≡ body_text items ++ 34 ∷ suffix = cc in
+    let both = and_parts _ (is_body w items) body in
+    subst (λ (n : ℕ). IsSplit w (c ∷ plain) cs suffix (plain_item n ∷ items)) first
+    (more w c plain cs suffix items
+    (split_plain w plain cs suffix items (and_parts (is_plain_ascii c) _ all).1 rest both.1))
+split_plain w (c ∷ plain) cs suffix (escape_item (simple_escape d) ∷ items) all same body =
+    let first : c ≡ 92 = cc in
+    absurd (no_mark c 92 (and_parts (is_plain_ascii c) _ all).0 (inr refl) first)
+split_plain w (c ∷ plain) cs suffix (escape_item (hex_escape high low) ∷ items) all same body =
+    let first : c ≡ 92 = cc in
+    absurd (no_mark c 92 (and_parts (is_plain_ascii c) _ all).0 (inr refl) first)
+split_plain w (c ∷ plain) cs suffix (escape_item (unicode_escape inner) ∷ items) all same body =
+    let first : c ≡ 92 = cc in
+    absurd (no_mark c 92 (and_parts (is_plain_ascii c) _ all).0 (inr refl) first)
+split_plain w (c ∷ plain) cs suffix (continuation blanks ∷ items) all same body =
+    let first : c ≡ 92 = cc in
+    absurd (no_mark c 92 (and_parts (is_plain_ascii c) _ all).0 (inr refl) first)
+
+-- Their rewriting
+
+no_line_feed : (c : ℕ) → is_plain_ascii c ≡ true → (c == 10) ≡ false
+no_line_feed c plain = grind (arith, nat_tests)
+
+-- the text before is no continuation
+abbrev IsApart : Before → Type 0
+IsApart Continuation = ⊥
+IsApart _ = Unit {0}
+
+needed_plain : (before : Before) (c : ℕ) → IsApart before → is_plain_ascii c ≡ true →
+    needed_char 34 before c ≡ Plain c
+needed_plain Text c apart plain = plain_spelling false c plain
+needed_plain Mark c apart plain = plain_spelling true c plain
+needed_plain Continuation c apart plain = absurd apart
+
+plain_items_of : (style : Style) (before : Before) (c : ℕ) → IsApart before →
+    is_plain_ascii c ≡ true → (escapes : Escapes) → style.escapes ≡ escapes →
+    items_of style.escape_digits (plain_item c) (plain_rewriting escapes 34 before c)
+    ≡ plain_item c ∷ []
+plain_items_of style before c apart plain Kept is = refl
+plain_items_of style before c apart plain Respelled is = refl
+plain_items_of style before c apart plain Needed is =
+    ap (λ (s : Spelling). items_of style.escape_digits (plain_item c) (Spelled s))
+    (needed_plain before c apart plain)
+
+one_item : (style : Style) (before : Before) (c : ℕ) → IsApart before → is_plain_ascii c ≡ true →
+    items_of style.escape_digits (plain_item c) (item_rewriting style 34 before (plain_item c))
+    ≡ plain_item c ∷ []
+one_item style before c apart plain =
+    ap (items_of style.escape_digits (plain_item c))
+    (if_false (c == 10) (line_feed_rewriting style.lines)
+    (plain_rewriting style.escapes 34 before c) (no_line_feed c plain))
+    ∙ plain_items_of style before c apart plain style.escapes refl
+
+one_more : (style : Style) (before : Before) (c : ℕ) (items : List Item) → IsApart before →
+    is_plain_ascii c ≡ true →
+    rewritten_items style before (plain_item c ∷ items)
+    ≡ plain_item c ∷ rewritten_items style Text items
+one_more style before c items apart plain =
+    ap (λ (l : List Item). l ++ rewritten_items style (before_after before l) items)
+    (one_item style before c apart plain)
+    ∙ ap (λ (b : Before). plain_item c ∷ rewritten_items style b items)
+    (if_false (c == 10) Mark Text (no_line_feed c plain))
+
+run_items : (style : Style) (before : Before) (plain : List ℕ) (items : List Item) →
+    IsApart before → 0 < length plain → list_all is_plain_ascii plain ≡ true →
+    rewritten_items style before (map plain_item plain ++ items)
+    ≡ map plain_item plain ++ rewritten_items style Text items
+run_items style before [] items apart some all = absurd (omega arith)
+run_items style before (c ∷ []) items apart some all =
+    one_more style before c items apart (and_parts (is_plain_ascii c) true all).0
+run_items style before (c ∷ d ∷ plain) items apart some all =
+    let both = and_parts (is_plain_ascii c) (list_all is_plain_ascii (d ∷ plain)) all in
+    one_more style before c (map plain_item (d ∷ plain) ++ items) apart both.0
+    ∙ ap (λ (l : List Item). plain_item c ∷ l)
+    (run_items style Text (d ∷ plain) items tt (omega arith) both.1)
+
+run_text : (plain : List ℕ) (items : List Item) →
+    body_text (map plain_item plain ++ items) ≡ plain ++ body_text items
+run_text [] items = refl
+run_text (c ∷ plain) items = ap (λ (t : List ℕ). c ∷ t) (run_text plain items)
+
+-- A turn of the loop
+
+-- The run, and the text after it.
+record IsRun (rest : List ℕ) (n : ℕ) : Type 0 where
+  plain : list_all is_plain_ascii (take n rest) ≡ true
+  spells : chars rest ≡ take n rest ++ chars (drop n rest)
+  some : 0 < length (take n rest)
+
+is_run : (rest : List ℕ) (n : ℕ) → IsUtf8 rest → n ≡ prefix_len is_plain_ascii rest → 0 < n →
+    IsRun rest n
+is_run rest n u is some =
+    let k = prefix_len is_plain_ascii rest in
+    let f = passing_front is_plain_ascii rest plain_is_ascii u in
+    let within = f.within in
+    let size = length-take-le k rest f.within in
+    subst (λ (m : ℕ). IsRun rest m) (sym is) (record {
+      plain = front_passes is_plain_ascii rest;
+      spells = sym (take-append-drop k (chars rest))
+          ∙ (λ i. f.taken i ++ f.rest i);
+      some = omega (arith, is, some, size);
+    })
+
+run_by : (w : Switches) (style : Style) (before : Before) (n : ℕ)
+    (rest text new suffix total : List ℕ) → IsApart before → IsRun rest n →
+    new ≡ text ++ take n rest → IsLeft w style before rest text suffix total →
+    IsLeft w style Text (drop n rest) new suffix total
+run_by w style before n rest text new suffix total apart run pushed (items, b, whole) =
+    let plain = take n rest in
+    let split = split_plain w plain (chars (drop n rest)) suffix items run.plain
+    (sym run.spells ∙ b.spells) b.body in
+    let after = rewritten_items style Text split.others in
+    let items_are : rewritten_items style before items ≡ map plain_item plain ++ after =
+    ap (rewritten_items style before) split.items_are
+    ∙ run_items style before plain split.others apart run.some run.plain in
+    let all : body_text (rewritten_items style before items) ++ 34 ∷ suffix
+    ≡ plain ++ (body_text after ++ 34 ∷ suffix) =
+    ap (λ (l : List Item). body_text l ++ 34 ∷ suffix) items_are
+    ∙ (ap (λ (t : List ℕ). t ++ 34 ∷ suffix) (run_text plain after)
+    ∙ append_assoc plain (body_text after) (34 ∷ suffix)) in (
+      split.others,
+      record { spells = split.rest; body = split.body },
+      ap (λ (t : List ℕ). t ++ encode_utf8_all (body_text after ++ 34 ∷ suffix)) pushed
+          ∙ (append_assoc text plain (encode_utf8_all (body_text after ++ 34 ∷ suffix))
+          ∙ (ap (λ (t : List ℕ). text ++ t)
+          (sym (coded plain (body_text after ++ 34 ∷ suffix) run.plain))
+          ∙ (ap (λ (t : List ℕ). text ++ encode_utf8_all t) (sym all) ∙ whole))),
+    )
+
+pub take_run : (w : Switches) (style : Style) (before : Before) (n : ℕ)
+    (rest text new suffix total : List ℕ) → IsUtf8 rest → n ≡ run_len before rest → 0 < n →
+    new ≡ text ++ take n rest → IsLeft w style before rest text suffix total →
+    IsLeft w style Text (drop n rest) new suffix total
+take_run w style Text n rest text new suffix total u is some pushed left =
+    run_by w style Text n rest text new suffix total tt (is_run rest n u is some) pushed left
+take_run w style Mark n rest text new suffix total u is some pushed left =
+    run_by w style Mark n rest text new suffix total tt (is_run rest n u is some) pushed left
+take_run w style Continuation n rest text new suffix total u is some pushed left =
+    absurd (omega arith)
+
+-- a text may be cut after a run
+pub run_cut : (before : Before) (rest : List ℕ) (n : ℕ) → IsUtf8 rest → n ≡ run_len before rest →
+    0 < n → IsCharBoundary rest n
+run_cut Text rest n u is some = plain_cut rest n u is
+run_cut Mark rest n u is some = plain_cut rest n u is
+run_cut Continuation rest n u is some = absurd (omega arith)
