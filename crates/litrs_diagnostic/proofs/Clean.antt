@@ -1,5 +1,5 @@
 -- Only LFs and printable characters are written, and in color only the codes besides.
-use Rattle.std.proofs.Common.{◌≡◌, ◌<◌, ◌+◌, ◌-◌, ◌/◌, ◌%◌, ℕ, zero, suc, Bool, true, false, not, ◌&&◌, ◌||◌, cond, eqb, ltb, leb, List, [], ◌∷◌, ◌++◌, Option, None, Some, length, get_or, replicate, max, refl, sym, ap, subst, ◌∙◌, arith, lit<, lit≤, ltb-true, leb-true, lt-ltb, append_assoc, append-nil}
+use Rattle.std.proofs.Common.{◌≡◌, ◌<◌, ◌+◌, ◌-◌, ◌/◌, ◌%◌, ℕ, zero, suc, Bool, true, false, ◌&&◌, ◌||◌, cond, eqb, ltb, leb, List, [], ◌∷◌, ◌++◌, Option, None, Some, length, get_or, replicate, max, refl, sym, ap, subst, ◌∙◌, arith, lit<, lit≤, ltb-true, leb-true, lt-ltb, append_assoc, append-nil}
 use Rattle.std.specs.Fmt.{decimal, digits, digits_onto, digit_glyph}
 use Rattle.std.specs.List.{list_all, flat_map, range_with_len}
 use Rattle.std.specs.Str.{chars}

@@ -8,7 +8,7 @@ use Rattle.std.proofs.lemmas.Str.{encodes-append}
 use Rattle.std.specs.Fmt.{HasWritten, IsPlainFormatter}
 use Rattle.std.specs.Str.{encode_utf8_all}
 use Rattle.std.specs.declared.fmt.Formatter.{Formatter}
-use Rattle.litrs_diagnostic.specs.Diagnostic.{Message, first_label, first_number, first_row, heading_text, is_long, last_number, last_row, margin_of, message_text, remarks_text, rows_of}
+use Rattle.litrs_diagnostic.specs.Diagnostic.{Message, first_label, first_number, first_row, heading_text, last_number, last_row, margin_of, message_text, remarks_text, rows_of}
 use Rattle.litrs_diagnostic.specs.Label.{LabelOn, greatest_number, is_between, label_number, label_row, rows_between}
 use Rattle.litrs_diagnostic.specs.Line.{Line, end_line_at, start_line_at}
 use Rattle.litrs_diagnostic.specs.Row.{Row, above_of, below_rows, is_whole, line_below, marks_text, row_if, rows_text}

@@ -1,5 +1,5 @@
 -- The bytes of what is written, piece by piece.
-use Rattle.std.proofs.Common.{◌≡◌, ◌≤◌, ◌<◌, ◌+◌, ◌-◌, ℕ, Bool, true, false, ◌&&◌, cond, eqb, List, [], ◌∷◌, ◌++◌, max, length, replicate, refl, sym, ap, ◌∙◌, arith, append_assoc, ltb, append-nil, zero, suc, ◌/◌, ◌%◌, lt-ltb}
+use Rattle.std.proofs.Common.{◌≡◌, ◌<◌, ◌+◌, ◌-◌, ℕ, Bool, true, false, ◌&&◌, cond, eqb, List, [], ◌∷◌, ◌++◌, max, length, replicate, refl, sym, ap, ◌∙◌, arith, append_assoc, ltb, append-nil, zero, suc, ◌/◌, ◌%◌, lt-ltb}
 use Rattle.std.specs.Fmt.{decimal, digits, digits_onto, digit_glyph}
 use Rattle.std.specs.List.{list_all}
 use Rattle.std.specs.Str.{chars, encode_utf8_all, IsAscii}

@@ -1,5 +1,5 @@
 -- Each turn writes one row, if it is between the bounds.
-use Rattle.std.proofs.Common.{List, Option, refl, ap, ◌∙◌, take, map}
+use Rattle.std.proofs.Common.{List, refl, ap, ◌∙◌, take, map}
 use Rattle.std.proofs.Output.{has_written_append, has_written_of_eq}
 use Rattle.std.specs.Str.{encode_utf8_all}
 use Rattle.litrs_diagnostic.specs.Label.{label_row, rows_between}

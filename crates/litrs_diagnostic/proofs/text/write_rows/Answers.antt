@@ -1,5 +1,5 @@
 -- Five parts, each below those before it.
-use Rattle.std.proofs.Common.{rules, None, Some, List, true, nat_lt, ap, ◌∙◌}
+use Rattle.std.proofs.Common.{None, Some, List, true, nat_lt, ap, ◌∙◌}
 use Rattle.std.proofs.Output.{has_written_append, has_written_of_eq}
 use Rattle.std.specs.Str.{encode_utf8_all}
 use Rattle.litrs_diagnostic.specs.Label.{rows_between}
