@@ -73,7 +73,7 @@ SKIPPED = rf"{FROM}|\s*(pub(\(\w+\))? )?(enum|struct) \w+[^;]*\{{$"
 ALLOWED = [
     r"//.*",
     r"^\s*(pub )?use (?![^;]*\b(AllocError|OutOfMemory|Memory|Error) as\b)[^;]*;",
-    r"Result<.*, AllocError>",
+    r"Result<.*, (AllocError|fmt::Error)>",
     r"(Option|From)<Alloc(Error|Failed<\w+>)>",
     r"type Error = AllocError;",
     r"\.OutOfMemory\b",

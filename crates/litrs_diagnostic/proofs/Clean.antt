@@ -1,24 +1,29 @@
--- Only LFs and printable characters are written.
-use Rattle.std.proofs.Common.{◌≡◌, ◌<◌, ◌+◌, ◌-◌, ◌/◌, ◌%◌, ℕ, zero, suc, Bool, true, false, ◌&&◌, ◌||◌, cond, eqb, ltb, leb, nat_lt, List, [], ◌∷◌, ◌++◌, length, get_or, replicate, take, drop, max, refl, sym, subst, ◌∙◌, arith, lit<, lit≤, ltb-true, leb-true, lt-ltb}
+-- Only LFs and printable characters are written, and in color only the codes besides.
+use Rattle.std.proofs.Common.{◌≡◌, ◌<◌, ◌+◌, ◌-◌, ◌/◌, ◌%◌, ℕ, zero, suc, Bool, true, false, ◌&&◌, ◌||◌, cond, eqb, ltb, leb, List, [], ◌∷◌, ◌++◌, Option, None, Some, length, get_or, replicate, max, refl, sym, ap, subst, ◌∙◌, arith, lit<, lit≤, ltb-true, leb-true, lt-ltb, append_assoc, append-nil}
 use Rattle.std.specs.Fmt.{decimal, digits, digits_onto, digit_glyph}
-use Rattle.std.specs.List.{list_all, flat_map, range_with_len, slice_range}
+use Rattle.std.specs.List.{list_all, flat_map, range_with_len}
 use Rattle.std.specs.Str.{chars}
 use Rattle.std.specs.Prelude.{codes}
 use Rattle.std.specs.Char.Escape.{escape_unicode}
-use Rattle.std.proofs.lemmas.Bool.{and_parts, and_from}
+use Rattle.std.proofs.lemmas.Bool.{and_parts, and_from, eqb-true}
 use Rattle.std.proofs.lemmas.List.FromFn.{get_or-range_with_len, length-range_with_len}
 use Rattle.ucd_category.specs.GeneralCategory.{general_category}
 use Rattle.ucd_category.specs.GeneralCategoryRows.{general_category_rows}
 use Rattle.ucd_table.specs.Rows.{value_in}
 use Rattle.litrs_base.proofs.Runs.{list_all-append, list_all-weaken}
+use Rattle.litrs_diagnostic.specs.Colors.{color_code, level_color, outside_codes, painted, plain_code, without_codes}
 use Rattle.litrs_diagnostic.specs.Printable.{is_printable}
-use Rattle.litrs_diagnostic.specs.Position.{is_line_feed, line_number, column_in}
-use Rattle.litrs_diagnostic.specs.Shown.{blank, caret, shown, shown_char, columns}
-use Rattle.litrs_diagnostic.specs.Line.{place_on_line, start_line, end_line}
-use Rattle.litrs_diagnostic.specs.Window.{Window, fitted}
+use Rattle.litrs_diagnostic.specs.Position.{is_line_feed}
+use Rattle.litrs_diagnostic.specs.Row.{Row, above_of, blanks, dots, gap_text, is_line_above, label_gap, line_below, line_text, margin_text, marks_below, marks_text, mark_color, mark_glyph, rows_text, skips_lines}
+use Rattle.litrs_diagnostic.specs.Shown.{blank, shown, shown_char, columns}
+use Rattle.litrs_diagnostic.specs.declared.colors.Color.{Color}
+use Rattle.litrs_diagnostic.specs.declared.colors.Color.TheVariants.{BoldRed, BoldYellow, BoldGreen, BoldCyan, BoldBlue, Green}
 use Rattle.litrs_diagnostic.specs.declared.levels.Level.{Level}
 use Rattle.litrs_diagnostic.specs.declared.levels.Level.TheVariants.{Error, Warning, Note, Help}
-use Rattle.litrs_diagnostic.specs.Diagnostic.{Message, Remark, level_text, remark_text, remarks_text, margin_of, blanks, carets, dots, gap_text, line_text, lines_text, message_text, diagnostic_text, is_line_feed_or_printable}
+use Rattle.litrs_diagnostic.specs.declared.marks.Mark.{Mark}
+use Rattle.litrs_diagnostic.specs.declared.marks.Mark.TheVariants.{Primary, Secondary}
+use Rattle.litrs_diagnostic.specs.declared.row.Above.{Above}
+use Rattle.litrs_diagnostic.specs.Diagnostic.{Message, Remark, column_of, diagnostic_text, colored_text, first_number, heading_text, is_line_feed_or_printable, level_text, margin_of, message_text, remark_text, remarks_text, rows_of}
 use Rattle.litrs_diagnostic.proofs.Widths.{IsPlain, ArePlain, plain_escape}
 
 -- ---- printable ASCII
@@ -69,9 +74,18 @@ all_replicate p (suc n) c h = and_from (p c) (list_all p (replicate n c)) h (all
 blanks_printable : (n : ℕ) → list_all is_printable (blanks n) ≡ true
 blanks_printable n = all_replicate is_printable n blank (plain_printable 32 (lit≤ tt, lit< tt))
 
-carets_printable : (cs : List ℕ) → list_all is_printable (carets cs) ≡ true
-carets_printable cs = all_replicate is_printable (max 1 (columns (shown cs))) caret
-    (plain_printable 94 (lit≤ tt, lit< tt))
+glyph_printable : (mark : Mark) → is_printable (mark_glyph mark) ≡ true
+glyph_printable (Primary level) = plain_printable 94 (lit≤ tt, lit< tt)
+glyph_printable Secondary = plain_printable 45 (lit≤ tt, lit< tt)
+
+marks_printable : (mark : Mark) (cs : List ℕ) →
+    list_all is_printable (marks_below (mark_glyph mark) cs) ≡ true
+marks_printable mark cs = all_replicate is_printable (max 1 (columns (shown cs))) (mark_glyph mark)
+    (glyph_printable mark)
+
+gap_printable : (label : List ℕ) → list_all is_printable (label_gap label) ≡ true
+gap_printable [] = refl
+gap_printable (c ∷ t) = blanks_printable 1
 
 shown_char_by : (c : ℕ) (a b : Bool) → eqb c 9 ≡ a → is_printable c ≡ b →
     list_all is_printable (shown_char c) ≡ true
@@ -112,19 +126,7 @@ decimal_printable : (n : ℕ) → list_all is_printable (decimal n) ≡ true
 unfolding digits
 decimal_printable n = plain_all (digits_onto 64 10 false n []) (digits_plain 64 n [] tt)
 
--- ---- all of it
-
-record IsClean (cs : List ℕ) : Type 0 where
-  all : list_all is_line_feed_or_printable cs ≡ true
-
-none_clean : IsClean []
-none_clean = record { all = refl }
-
-one_line_end : IsClean (10 ∷ [])
-one_line_end = record { all = refl }
-
-both_clean : (xs ys : List ℕ) → IsClean xs → IsClean ys → IsClean (xs ++ ys)
-both_clean xs ys h k = record { all = list_all-append is_line_feed_or_printable xs ys h.all k.all }
+-- ---- codes
 
 or_true : (a b : Bool) → b ≡ true → (a || b) ≡ true
 or_true true b h = refl
@@ -133,64 +135,167 @@ or_true false b h = h
 printable_clean : (c : ℕ) → is_printable c ≡ true → is_line_feed_or_printable c ≡ true
 printable_clean c h = or_true (is_line_feed c) (is_printable c) h
 
-piece : (xs ys : List ℕ) → list_all is_printable xs ≡ true → IsClean ys → IsClean (xs ++ ys)
-piece xs ys h k =
-    both_clean xs ys (record {
-      all = list_all-weaken is_printable is_line_feed_or_printable
-          printable_clean xs h;
-    }) k
+escape_hidden : is_line_feed_or_printable 27 ≡ false
+unfolding is_printable general_category general_category_rows value_in
+escape_hidden = refl
 
-line_end : (ys : List ℕ) → IsClean ys → IsClean (10 ∷ ys)
-line_end ys h = record { all = h.all }
+-- a character other than ESC is kept
+kept_by : (c : ℕ) (t : List ℕ) (b : Bool) → eqb c 27 ≡ b → is_line_feed_or_printable c ≡ true →
+    outside_codes false (c ∷ t) ≡ c ∷ outside_codes false t
+unfolding outside_codes
+kept_by c t false e h = rw e refl
+kept_by c t true e h =
+    let same : c ≡ 27 = eqb-true c 27 e in
+    let other : is_line_feed_or_printable 27 ≡ true = subst
+    (λ (n : ℕ). is_line_feed_or_printable n ≡ true) same h in
+    let no : false ≡ true = sym escape_hidden ∙ other in cc
+
+-- a clean text is kept before any other
+kept_before : (xs ys : List ℕ) → list_all is_line_feed_or_printable xs ≡ true →
+    outside_codes false (xs ++ ys) ≡ xs ++ outside_codes false ys
+kept_before [] ys h = refl
+kept_before (c ∷ t) ys h =
+    let parts = and_parts (is_line_feed_or_printable c) (list_all is_line_feed_or_printable t) h in
+    kept_by c (t ++ ys) (eqb c 27) refl parts.0
+    ∙ ap (λ (l : List ℕ). c ∷ l) (kept_before t ys parts.1)
+
+-- a code is left out
+no_color_code : (color : Color) (ys : List ℕ) →
+    outside_codes false (color_code color ++ ys) ≡ outside_codes false ys
+unfolding outside_codes
+no_color_code BoldRed ys = refl
+no_color_code BoldYellow ys = refl
+no_color_code BoldGreen ys = refl
+no_color_code BoldCyan ys = refl
+no_color_code BoldBlue ys = refl
+no_color_code Green ys = refl
+
+no_plain_code : (ys : List ℕ) → outside_codes false (plain_code ++ ys) ≡ outside_codes false ys
+unfolding outside_codes
+no_plain_code ys = refl
+
+-- ---- all of it
+
+-- `ys` is `xs` without the codes in it, whatever follows, and clean
+record IsPlainOf (xs ys : List ℕ) : Type 0 where
+  clean : list_all is_line_feed_or_printable ys ≡ true
+  kept : (more : List ℕ) → outside_codes false (xs ++ more) ≡ ys ++ outside_codes false more
+
+none_plain : IsPlainOf [] []
+none_plain = record { clean = refl; kept = λ more. refl }
+
+same_plain : (xs : List ℕ) → list_all is_line_feed_or_printable xs ≡ true → IsPlainOf xs xs
+same_plain xs h = record { clean = h; kept = λ more. kept_before xs more h }
+
+both_plain : (xs xs' ys ys' : List ℕ) → IsPlainOf xs xs' → IsPlainOf ys ys' →
+    IsPlainOf (xs ++ ys) (xs' ++ ys')
+both_plain xs xs' ys ys' h k = record {
+  clean = list_all-append is_line_feed_or_printable xs' ys' h.clean k.clean;
+  kept = λ more. ap (outside_codes false) (append_assoc xs ys more) ∙ (h.kept (ys ++ more)
+      ∙ (ap (λ (l : List ℕ). xs' ++ l) (k.kept more)
+      ∙ sym (append_assoc xs' ys' (outside_codes false more))));
+}
+
+printable_plain : (xs : List ℕ) → list_all is_printable xs ≡ true → IsPlainOf xs xs
+printable_plain xs h = same_plain xs
+    (list_all-weaken is_printable is_line_feed_or_printable printable_clean xs h)
+
+piece : (xs ys ys' : List ℕ) → list_all is_printable xs ≡ true → IsPlainOf ys ys' →
+    IsPlainOf (xs ++ ys) (xs ++ ys')
+piece xs ys ys' h k = both_plain xs xs ys ys' (printable_plain xs h) k
+
+line_end : IsPlainOf (10 ∷ []) (10 ∷ [])
+line_end = same_plain (10 ∷ []) refl
+
+-- a part between the codes of a color
+part : (color : Color) (xs : List ℕ) → list_all is_printable xs ≡ true →
+    IsPlainOf (painted true color xs) (painted false color xs)
+part color xs h =
+    let all = list_all-weaken is_printable is_line_feed_or_printable printable_clean xs h in
+    record {
+      clean = all;
+      kept = λ more. ap (outside_codes false)
+          (append_assoc (color_code color) (xs ++ plain_code) more)
+          ∙ (no_color_code color ((xs ++ plain_code) ++ more)
+          ∙ (ap (outside_codes false) (append_assoc xs plain_code more)
+          ∙ (kept_before xs (plain_code ++ more) all
+          ∙ ap (λ (l : List ℕ). xs ++ l) (no_plain_code more))));
+    }
+
+both_printable : (xs ys : List ℕ) → list_all is_printable xs ≡ true →
+    list_all is_printable ys ≡ true → list_all is_printable (xs ++ ys) ≡ true
+both_printable xs ys h k = list_all-append is_printable xs ys h k
+
+bar_printable : list_all is_printable (codes " |") ≡ true
+bar_printable = plain_by_test (codes " |") refl
+
+margin_plain : (margin : ℕ) (sign : List ℕ) → list_all is_printable sign ≡ true →
+    IsPlainOf (margin_text true margin sign) (margin_text false margin sign)
+margin_plain margin sign h = part BoldBlue (blanks margin ++ sign)
+    (both_printable (blanks margin) sign (blanks_printable margin) h)
 
 dots_printable : (is_cut : Bool) → list_all is_printable (dots is_cut) ≡ true
 dots_printable true = plain_by_test (codes "...") refl
 dots_printable false = refl
 
-line_clean : (margin number : ℕ) (l : Window) → IsClean (line_text margin number l)
+line_plain : (margin : ℕ) (row : Row) →
+    IsPlainOf (line_text true margin row) (line_text false margin row)
 unfolding line_text
-line_clean margin number l =
-    piece (decimal number) _ (decimal_printable number)
-    (piece (blanks (margin - length (decimal number))) _
-    (blanks_printable (margin - length (decimal number)))
-    (piece (codes " | ") _ (plain_by_test (codes " | ") refl)
-    (piece (dots l.is_cut_before) _ (dots_printable l.is_cut_before)
-    (piece (shown l.before) _ (shown_printable l.before)
-    (piece (shown l.marked) _ (shown_printable l.marked)
-    (piece (shown l.after) _ (shown_printable l.after)
-    (piece (dots l.is_cut_after) _ (dots_printable l.is_cut_after)
-    (line_end (blanks margin ++ (codes " | " ++ (blanks (length (dots l.is_cut_before)) ++
-    (blanks (columns (shown l.before)) ++ (carets l.marked ++ 10 ∷ [])))))
-    (piece (blanks margin) _ (blanks_printable margin)
-    (piece (codes " | ") _ (plain_by_test (codes " | ") refl)
-    (piece (blanks (length (dots l.is_cut_before))) _
-    (blanks_printable (length (dots l.is_cut_before)))
-    (piece (blanks (columns (shown l.before))) _ (blanks_printable (columns (shown l.before)))
-    (piece (carets l.marked) (10 ∷ []) (carets_printable l.marked) one_line_end)))))))))))))
+line_plain margin row =
+    let l = row.line in
+    both_plain _ _ _ _ (part BoldBlue (decimal row.number
+    ++ (blanks (margin - length (decimal row.number)) ++ codes " |"))
+    (both_printable (decimal row.number) _ (decimal_printable row.number)
+    (both_printable (blanks (margin - length (decimal row.number))) (codes " |")
+    (blanks_printable (margin - length (decimal row.number))) bar_printable)))
+    (piece (codes " ") _ _ (blanks_printable 1)
+    (piece (dots l.is_cut_before) _ _ (dots_printable l.is_cut_before)
+    (piece (shown l.before) _ _ (shown_printable l.before)
+    (piece (shown l.marked) _ _ (shown_printable l.marked)
+    (piece (shown l.after) _ _ (shown_printable l.after)
+    (piece (dots l.is_cut_after) _ _ (dots_printable l.is_cut_after) line_end))))))
 
-clean_cond : (b : Bool) (xs ys : List ℕ) → IsClean xs → IsClean ys → IsClean (cond b xs ys)
-clean_cond true xs ys h k = h
-clean_cond false xs ys h k = k
+marks_plain : (margin : ℕ) (row : Row) →
+    IsPlainOf (marks_text true margin row) (marks_text false margin row)
+unfolding marks_text
+marks_plain margin row =
+    let l = row.line in
+    let indent = length (dots l.is_cut_before) in
+    let below = columns (shown l.before) in
+    let label = label_gap row.label ++ shown (chars row.label) in
+    both_plain _ _ _ _ (margin_plain margin (codes " |") bar_printable)
+    (both_plain _ _ _ _ (part (mark_color row.mark) (codes " " ++ (blanks indent ++ (blanks below
+    ++ (marks_below (mark_glyph row.mark) l.marked ++ label))))
+    (both_printable (codes " ") _ (blanks_printable 1)
+    (both_printable (blanks indent) _ (blanks_printable indent)
+    (both_printable (blanks below) _ (blanks_printable below)
+    (both_printable (marks_below (mark_glyph row.mark) l.marked) label
+    (marks_printable row.mark l.marked) (both_printable (label_gap row.label) _
+    (gap_printable row.label) (shown_printable (chars row.label)))))))) line_end)
 
-gap_clean : (first last : ℕ) → IsClean (gap_text first last)
-gap_clean first last =
-    clean_cond (nat_lt (first + 1) last) (codes "...\n") []
-    (piece (codes "...") (10 ∷ []) (plain_by_test (codes "...") refl) one_line_end) none_clean
+plain_cond : (b : Bool) (xs xs' ys ys' : List ℕ) → IsPlainOf xs xs' → IsPlainOf ys ys' →
+    IsPlainOf (cond b xs ys) (cond b xs' ys')
+plain_cond true xs xs' ys ys' h k = h
+plain_cond false xs xs' ys ys' h k = k
 
-lines_clean : (margin first_line width : ℕ) (before range after : List ℕ) →
-    IsClean (lines_text margin first_line width before range after)
-unfolding lines_text
-lines_clean margin first_line width before range after =
-    let first = line_number first_line before in
-    let last = line_number first_line (before ++ range) in
-    let more = gap_text first last ++ line_text margin last (fitted width (end_line range after)) in
-    both_clean (line_text margin first (fitted width (start_line before range after)))
-    (cond (nat_lt first last) more [])
-    (line_clean margin first (fitted width (start_line before range after)))
-    (clean_cond (nat_lt first last) more []
-    (both_clean (gap_text first last) (line_text margin last (fitted width (end_line range after)))
-    (gap_clean first last) (line_clean margin last (fitted width (end_line range after))))
-    none_clean)
+gap_plain : (is_gap : Bool) → IsPlainOf (gap_text true is_gap) (gap_text false is_gap)
+gap_plain true = both_plain _ _ _ _ (part BoldBlue (codes "...") (plain_by_test (codes "...") refl))
+    line_end
+gap_plain false = none_plain
+
+below_plain : (margin : ℕ) (above : Option Above) (row : Row) →
+    IsPlainOf (line_below true margin above row) (line_below false margin above row)
+below_plain margin above row =
+    plain_cond (is_line_above above row) [] [] _ _ none_plain
+    (both_plain _ _ _ _ (gap_plain (skips_lines above row.number)) (line_plain margin row))
+
+rows_plain : (margin : ℕ) (above : Option Above) (rows : List Row) →
+    IsPlainOf (rows_text true margin above rows) (rows_text false margin above rows)
+unfolding rows_text
+rows_plain margin above [] = none_plain
+rows_plain margin above (row ∷ rows) =
+    both_plain _ _ _ _ (both_plain _ _ _ _ (below_plain margin above row) (marks_plain margin row))
+    (rows_plain margin (Some (above_of row)) rows)
 
 level_printable : (level : Level) → list_all is_printable (level_text level) ≡ true
 level_printable Error = plain_by_test (codes "error") refl
@@ -198,64 +303,63 @@ level_printable Warning = plain_by_test (codes "warning") refl
 level_printable Note = plain_by_test (codes "note") refl
 level_printable Help = plain_by_test (codes "help") refl
 
-message_clean : (level : Level) (first_line first_column width : ℕ) (name message before range after : List ℕ) →
-    IsClean (message_text level first_line first_column width name message before range after)
+heading_plain : (m : Message) → IsPlainOf (heading_text true m) (heading_text false m)
+unfolding heading_text
+heading_plain m =
+    both_plain _ _ _ _ (part (level_color m.level) (level_text m.level) (level_printable m.level))
+    (piece (codes ": ") _ _ (plain_by_test (codes ": ") refl)
+    (piece (shown (chars m.message)) _ _ (shown_printable (chars m.message))
+    (both_plain _ _ _ _ line_end
+    (both_plain _ _ _ _ (margin_plain (margin_of m) (codes "-->") (plain_by_test (codes "-->") refl))
+    (piece (codes " ") _ _ (blanks_printable 1)
+    (piece (shown (chars m.name)) _ _ (shown_printable (chars m.name))
+    (piece (codes ":") _ _ (plain_by_test (codes ":") refl)
+    (piece (decimal (first_number m)) _ _ (decimal_printable (first_number m))
+    (piece (codes ":") _ _ (plain_by_test (codes ":") refl)
+    (piece (decimal (column_of m)) _ _ (decimal_printable (column_of m))
+    (both_plain _ _ _ _ line_end
+    (both_plain _ _ _ _ (margin_plain (margin_of m) (codes " |") bar_printable) line_end))))))))))))
+
+remark_plain : (margin : ℕ) (r : Remark) →
+    IsPlainOf (remark_text true margin r) (remark_text false margin r)
+remark_plain margin r =
+    both_plain _ _ _ _ (margin_plain margin (codes " =") (plain_by_test (codes " =") refl))
+    (piece (codes " ") _ _ (blanks_printable 1)
+    (piece (level_text r.level) _ _ (level_printable r.level)
+    (piece (codes ": ") _ _ (plain_by_test (codes ": ") refl)
+    (piece (shown (chars r.text)) _ _ (shown_printable (chars r.text)) line_end))))
+
+remark_lines_plain : (margin : ℕ) (rs : List Remark) →
+    IsPlainOf (flat_map (remark_text true margin) rs) (flat_map (remark_text false margin) rs)
+remark_lines_plain margin [] = none_plain
+remark_lines_plain margin (r ∷ rs) =
+    both_plain (remark_text true margin r) (remark_text false margin r) _ _
+    (remark_plain margin r) (remark_lines_plain margin rs)
+
+remarks_plain : (margin : ℕ) (rs : List Remark) →
+    IsPlainOf (remarks_text true margin rs) (remarks_text false margin rs)
+remarks_plain margin [] = none_plain
+remarks_plain margin (r ∷ rs) =
+    both_plain _ _ _ _ (margin_plain margin (codes " |") bar_printable)
+    (both_plain _ _ _ _ line_end (remark_lines_plain margin (r ∷ rs)))
+
+message_plain : (m : Message) → IsPlainOf (colored_text m) (diagnostic_text m)
 unfolding message_text
-message_clean level first_line first_column width name message before range after =
-    let margin = length (decimal (line_number first_line (before ++ range))) in
-    piece (level_text level) _ (level_printable level)
-    (piece (codes ": ") _ (plain_by_test (codes ": ") refl)
-    (piece (shown message) _ (shown_printable message)
-    (line_end (blanks margin ++ (codes "--> " ++
-    (shown name ++ (codes ":" ++ (decimal (line_number first_line before)
-    ++ (codes ":" ++ (decimal (column_in first_column before)
-    ++ 10 ∷ (blanks margin ++ (codes " |\n" ++ lines_text margin first_line width before range after)))))))))
-    (piece (blanks margin) _ (blanks_printable margin)
-    (piece (codes "--> ") _ (plain_by_test (codes "--> ") refl)
-    (piece (shown name) _ (shown_printable name)
-    (piece (codes ":") _ (plain_by_test (codes ":") refl)
-    (piece (decimal (line_number first_line before)) _ (decimal_printable (line_number first_line before))
-    (piece (codes ":") _ (plain_by_test (codes ":") refl)
-    (piece (decimal (column_in first_column before)) _ (decimal_printable (column_in first_column before))
-    (line_end (blanks margin ++ (codes " |\n" ++ lines_text margin first_line width before range after))
-    (piece (blanks margin) _ (blanks_printable margin)
-    (piece (codes " |") (10 ∷ lines_text margin first_line width before range after)
-    (plain_by_test (codes " |") refl)
-    (line_end (lines_text margin first_line width before range after)
-    (lines_clean margin first_line width before range after)))))))))))))))
-
-remark_clean : (margin : ℕ) (r : Remark) → IsClean (remark_text margin r)
-remark_clean margin r =
-    piece (blanks margin) _ (blanks_printable margin)
-    (piece (codes " = ") _ (plain_by_test (codes " = ") refl)
-    (piece (level_text r.level) _ (level_printable r.level)
-    (piece (codes ": ") _ (plain_by_test (codes ": ") refl)
-    (piece (shown (chars r.text)) (10 ∷ []) (shown_printable (chars r.text)) one_line_end))))
-
-remark_lines_clean : (margin : ℕ) (rs : List Remark) → IsClean (flat_map (remark_text margin) rs)
-remark_lines_clean margin [] = none_clean
-remark_lines_clean margin (r ∷ rs) =
-    both_clean (remark_text margin r) (flat_map (remark_text margin) rs)
-    (remark_clean margin r) (remark_lines_clean margin rs)
-
-remarks_clean : (margin : ℕ) (rs : List Remark) → IsClean (remarks_text margin rs)
-remarks_clean margin [] = none_clean
-remarks_clean margin (r ∷ rs) =
-    piece (blanks margin) _ (blanks_printable margin)
-    (piece (codes " |") (10 ∷ flat_map (remark_text margin) (r ∷ rs))
-    (plain_by_test (codes " |") refl)
-    (line_end (flat_map (remark_text margin) (r ∷ rs)) (remark_lines_clean margin (r ∷ rs))))
+message_plain m =
+    both_plain _ _ _ _ (heading_plain m)
+    (both_plain _ _ _ _ (rows_plain (margin_of m) None (rows_of m))
+    (remarks_plain (margin_of m) m.remarks))
 
 pub diagnostic_clean : (m : Message) →
     list_all is_line_feed_or_printable (diagnostic_text m) ≡ true
-unfolding diagnostic_text
-diagnostic_clean m =
-    let start = place_on_line m.source m.start in
-    let end = place_on_line m.source m.end in
-    let before = chars (take start m.source) in
-    let range = chars (slice_range m.source start end) in
-    let margin = margin_of m.first_line before range in
-    (both_clean (message_text m.level m.first_line m.first_column m.width (chars m.name)
-    (chars m.message) before range (chars (drop end m.source))) (remarks_text margin m.remarks)
-    (message_clean m.level m.first_line m.first_column m.width (chars m.name) (chars m.message)
-    before range (chars (drop end m.source))) (remarks_clean margin m.remarks)).all
+diagnostic_clean m = (message_plain m).clean
+
+none_kept : outside_codes false [] ≡ []
+unfolding outside_codes
+none_kept = refl
+
+pub codes_apart : (m : Message) → without_codes (colored_text m) ≡ diagnostic_text m
+codes_apart m =
+    ap without_codes (sym (append-nil (colored_text m)))
+    ∙ ((message_plain m).kept []
+    ∙ (ap (λ (l : List ℕ). diagnostic_text m ++ l) none_kept ∙ append-nil (diagnostic_text m)))

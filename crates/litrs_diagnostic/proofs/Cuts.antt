@@ -5,7 +5,7 @@ use Rattle.std.specs.Str.{chars, IsUtf8, IsCharBoundary}
 use Rattle.std.proofs.lemmas.List.{take-append-drop, take_at, drop_at}
 use Rattle.std.proofs.lemmas.Str.{chars-append, IsUtf8-append, IsUtf8-between, IsUtf8-drop, IsCharBoundary-at_seam}
 use Rattle.litrs_diagnostic.specs.Position.{last_line}
-use Rattle.litrs_diagnostic.specs.Line.{Line, first_line, start_line, end_line}
+use Rattle.litrs_diagnostic.specs.Line.{Line, first_line, place_on_line, start_line, end_line, start_line_at, end_line_at}
 
 -- what is after the start of the range: the range, and what is after its end
 pub record IsCutAtEnd (bs : List ℕ) (start end : ℕ) : Type 0 where
@@ -131,3 +131,18 @@ end_line_is bs m rest before marked after start end cut is_before is_mark is_res
     (first_line (chars (drop (end - length m) bs)))) cut.mark
     ∙ (ap (λ (l : List ℕ). drop (length (chars m)) (first_line l)) cut.characters
     ∙ ap (λ (l : List ℕ). drop (length l) (first_line (l ++ tail))) is_mark))))
+
+-- the lines of a range whose ends are places on lines
+pub start_line_at_is : (source : List ℕ) (start end from to : ℕ) (l : Line) →
+    from ≡ place_on_line source start → to ≡ place_on_line source end →
+    l ≡ start_line (chars (take from source)) (chars (slice_range source from to))
+    (chars (drop to source)) → l ≡ start_line_at source start end
+unfolding start_line_at
+start_line_at_is source start end from to l is_from is_to is = rw (is_from, is_to) at is
+
+pub end_line_at_is : (source : List ℕ) (start end from to : ℕ) (l : Line) →
+    from ≡ place_on_line source start → to ≡ place_on_line source end →
+    l ≡ end_line (chars (slice_range source from to)) (chars (drop to source)) →
+    l ≡ end_line_at source start end
+unfolding end_line_at
+end_line_at_is source start end from to l is_from is_to is = rw (is_from, is_to) at is

@@ -20,5 +20,7 @@ pub mod Cuts
 pub mod Written
 -- the bytes of remarks
 pub mod RemarkLines
+-- the bytes of rows
+pub mod RowLines
 -- that it is printable
 pub mod Clean

@@ -9,7 +9,7 @@ use Rattle.std.proofs.lemmas.List.Sorted.{IsPartitionedBy-leb, IsPartitionPoint-
 use Rattle.std.specs.Str.{chars, IsUtf8, IsCharBoundary, encode_utf8_all}
 use Rattle.std.proofs.Math.Seq.{take-add, drop-cons}
 use Rattle.std.proofs.lemmas.Bool.{false_from_ne_true, cases_Bool, cases_lt, eqb-true}
-use Rattle.std.proofs.lemmas.List.{get_or-take, get_or-drop, get_or_push}
+use Rattle.std.proofs.lemmas.List.{get_or-take, get_or-drop, get_or_push, take-append-drop}
 use Rattle.std.proofs.Math.ListN.{get_or-append}
 use Rattle.std.proofs.lemmas.List.Folds.{list_any-append}
 use Rattle.std.proofs.lemmas.List.Sums.{sum_by-append}
@@ -85,6 +85,12 @@ line_len_is bs at u within before here =
           ∙ ap (λ (l : List ℕ). 10 ∷ l) chars-nil));
       none = no_line_feed_in (take at bs) front none;
     }
+
+pub no_line_feeds : (bs : List ℕ) → IsUtf8 bs →
+    ((k : ℕ) → k < length bs → Passes (is_byte 10) bs k → ⊥) →
+    count_by is_line_feed (chars bs) ≡ 0
+no_line_feeds bs u h =
+    none_counted is_line_feed (chars bs) (no_line_feed_in bs u (none_from_places is_line_feed bs h))
 
 -- ---- one line after another
 
@@ -162,6 +168,18 @@ no_later starts last start order all k within = elim (cases_lt k (length starts)
       let same = get_or_push starts start 0 k (sym last) in
       omega (arith, same)
 ]
+
+-- no line starts later
+pub each_start : (bs : List ℕ) (number start : ℕ) → IsUtf8 bs → IsLineStart bs number start →
+    count_by is_line_feed (chars (drop start bs)) ≡ 0 → number ≡ count_by is_line_feed (chars bs)
+each_start bs number start u at none =
+    let front : IsUtf8 (take start bs) = IsUtf8-take bs start u at.boundary in
+    let parts : chars bs ≡ chars (take start bs) ++ chars (drop start bs) =
+    ap chars (sym (take-append-drop start bs)) ∙ chars-append (take start bs) (drop start bs) front in
+    let sum = counted (chars (take start bs)) (chars (drop start bs)) in
+    let same = ap (count_by is_line_feed) parts in
+    let before = at.line_feeds in
+    omega (arith, sum, same, before, none)
 
 -- ---- a place in a line
 

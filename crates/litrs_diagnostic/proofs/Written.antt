@@ -1,7 +1,7 @@
 -- The bytes of what is written, piece by piece.
-use Rattle.std.proofs.Common.{◌≡◌, ◌≤◌, ◌<◌, ◌+◌, ◌-◌, ℕ, Bool, true, false, ◌&&◌, cond, eqb, List, [], ◌∷◌, ◌++◌, max, length, replicate, take, drop, refl, sym, ap, ◌∙◌, arith, append_assoc, ltb, nat_lt, lt-ltb, le-ltb, append-nil, count_by, zero, suc, ◌/◌, ◌%◌}
+use Rattle.std.proofs.Common.{◌≡◌, ◌<◌, ◌+◌, ◌-◌, ℕ, Bool, true, false, ◌&&◌, cond, eqb, List, [], ◌∷◌, ◌++◌, max, length, replicate, refl, sym, ap, ◌∙◌, arith, append_assoc, ltb, append-nil, zero, suc, ◌/◌, ◌%◌, lt-ltb}
 use Rattle.std.specs.Fmt.{decimal, digits, digits_onto, digit_glyph}
-use Rattle.std.specs.List.{list_all, slice_range}
+use Rattle.std.specs.List.{list_all}
 use Rattle.std.specs.Str.{chars, encode_utf8_all, IsAscii}
 use Rattle.std.specs.Prelude.{codes}
 use Rattle.std.proofs.lemmas.Bool.{and_parts, eqb-true}
@@ -9,15 +9,16 @@ use Rattle.std.proofs.lemmas.List.Sums.{sum_by-append}
 use Rattle.std.proofs.lemmas.Str.{encodes-append, encodes-IsAscii}
 use Rattle.std.proofs.lemmas.Str.Ascii.{IsAscii-cons, IsAscii-nil}
 use Rattle.litrs_base.proofs.Chars.{ascii_by_test}
-use Rattle.litrs_diagnostic.specs.Shown.{caret, char_columns, columns, shown, shown_char}
-use Rattle.litrs_diagnostic.specs.Position.{is_line_feed, line_number, column_in}
-use Rattle.litrs_diagnostic.specs.Line.{place_on_line, start_line, end_line}
-use Rattle.litrs_diagnostic.specs.Window.{Window, fitted}
+use Rattle.litrs_diagnostic.specs.Colors.{color_code, plain_code, opening, closing, painted, level_color}
+use Rattle.litrs_diagnostic.specs.Shown.{char_columns, columns, shown, shown_char}
+use Rattle.litrs_diagnostic.specs.Row.{Row, blanks, dots, gap_text, label_gap, line_text, margin_text, marks_below, marks_text, mark_color, mark_glyph}
+use Rattle.litrs_diagnostic.specs.declared.colors.Color.{Color}
+use Rattle.litrs_diagnostic.specs.declared.colors.Color.TheVariants.{BoldRed, BoldYellow, BoldGreen, BoldCyan, BoldBlue, Green}
 use Rattle.litrs_diagnostic.specs.declared.levels.Level.{Level}
 use Rattle.litrs_diagnostic.specs.declared.levels.Level.TheVariants.{Error, Warning, Note, Help}
-use Rattle.litrs_diagnostic.specs.Diagnostic.{Message, Remark, level_text, remark_text, remarks_text, margin_of, blanks, carets, dots, line_text, gap_text, lines_text, message_text, diagnostic_text}
+use Rattle.litrs_diagnostic.specs.Diagnostic.{Message, Remark, column_of, first_number, heading_text, level_text, margin_of, remark_text}
 
--- ---- carets
+-- ---- marks
 
 abbrev pub is_thin : ℕ → Bool
 is_thin c = eqb (columns (shown_char c)) 0
@@ -46,15 +47,16 @@ wide (c ∷ cs) h =
     wide_either (columns (shown_char c)) (columns (shown cs)) (list_all is_thin cs)
     (columns (shown (c ∷ cs))) sum (wide cs) h
 
-pub one_caret : (cs : List ℕ) → list_all is_thin cs ≡ true → replicate 1 caret ≡ carets cs
-one_caret cs h = let none = thin cs h in ap (λ (n : ℕ). replicate n caret)
+pub one_mark : (glyph : ℕ) (cs : List ℕ) → list_all is_thin cs ≡ true →
+    replicate 1 glyph ≡ marks_below glyph cs
+one_mark glyph cs h = let none = thin cs h in ap (λ (n : ℕ). replicate n glyph)
     (let one : 1 ≡ max 1 (columns (shown cs)) = omega (arith, none) in one)
 
-pub many_carets : (cs : List ℕ) → list_all is_thin cs ≡ false →
-    replicate (columns (shown cs)) caret ≡ carets cs
-many_carets cs h =
+pub many_marks : (glyph : ℕ) (cs : List ℕ) → list_all is_thin cs ≡ false →
+    replicate (columns (shown cs)) glyph ≡ marks_below glyph cs
+many_marks glyph cs h =
     let some = wide cs h in
-    ap (λ (n : ℕ). replicate n caret) (let all : columns (shown cs) ≡ max 1 (columns (shown cs)) =
+    ap (λ (n : ℕ). replicate n glyph) (let all : columns (shown cs) ≡ max 1 (columns (shown cs)) =
     omega (arith, some) in all)
 
 -- ---- ASCII
@@ -111,47 +113,6 @@ dots_then : (is_cut : Bool) (ys bs : List ℕ) → encode_utf8_all ys ≡ bs →
 dots_then true ys bs more = ascii_then (codes "...") ys bs refl more
 dots_then false ys bs more = more
 
--- the line, and what is below it, as they are written
--- `start` and `end` are the dots of the line.
-pub line_bytes : (margin number filling : ℕ) (start end : List ℕ) (l : Window) →
-    filling ≡ margin - length (decimal number) →
-    start ≡ dots l.is_cut_before → end ≡ dots l.is_cut_after →
-    (decimal number ++ (encode_utf8_all (blanks filling) ++ (codes " | " ++ (start
-    ++ (encode_utf8_all (shown l.before) ++ (encode_utf8_all (shown l.marked)
-    ++ (encode_utf8_all (shown l.after) ++ (end ++ 10 ∷ []))))))))
-    ++ (encode_utf8_all (blanks margin) ++ (codes " | "
-    ++ (encode_utf8_all (blanks (length start))
-    ++ (encode_utf8_all (blanks (columns (shown l.before)))
-    ++ (encode_utf8_all (carets l.marked) ++ 10 ∷ [])))))
-    ≡ encode_utf8_all (line_text margin number l)
-unfolding line_text
-line_bytes margin number filling start end l is_filling is_start is_end =
-    rw (is_filling, is_start, is_end) (simp append_assoc refl
-    ∙ sym (decimal_then number _ _ (text_then (blanks (margin - length (decimal number))) _ _
-    (ascii_then (codes " | ") _ _ refl (dots_then l.is_cut_before _ _
-    (text_then (shown l.before) _ _ (text_then (shown l.marked) _ _
-    (text_then (shown l.after) _ _ (dots_then l.is_cut_after _ _ (ascii_then (10 ∷ []) _ _ refl
-    (text_then (blanks margin) _ _ (ascii_then (codes " | ") _ _ refl
-    (text_then (blanks (length (dots l.is_cut_before))) _ _
-    (text_then (blanks (columns (shown l.before))) _ _
-    (text_then (carets l.marked) _ _ newline)))))))))))))))
-
--- ---- all of it
-
--- the message, the place of the range's start, and what is before the lines
-abbrev pub heading : (level name message : List ℕ) (margin line column : ℕ) (bs : List ℕ) → List ℕ
-heading level name message margin line column bs =
-    ((level ++ (codes ": " ++ (encode_utf8_all (shown message) ++ codes "\n")))
-    ++ (encode_utf8_all (blanks margin) ++ (codes "--> "
-    ++ (encode_utf8_all (shown name) ++ (codes ":"
-    ++ (decimal line ++ (codes ":" ++ (decimal column ++ codes "\n"))))))))
-    ++ (encode_utf8_all (blanks margin) ++ (codes " |\n" ++ bs))
-
-heading_more : (level name message : List ℕ) (margin line column : ℕ) (a b : List ℕ) →
-    heading level name message margin line column a ++ b
-    ≡ heading level name message margin line column (a ++ b)
-heading_more level name message margin line column a b = simp append_assoc refl
-
 level_then : (level : Level) (ys bs : List ℕ) → encode_utf8_all ys ≡ bs →
     encode_utf8_all (level_text level ++ ys) ≡ level_text level ++ bs
 level_then Error ys bs more = ascii_then (codes "error") ys bs refl more
@@ -159,136 +120,162 @@ level_then Warning ys bs more = ascii_then (codes "warning") ys bs refl more
 level_then Note ys bs more = ascii_then (codes "note") ys bs refl more
 level_then Help ys bs more = ascii_then (codes "help") ys bs refl more
 
-heading_then : (level : Level) (first_line first_column width : ℕ) (name message before range after bs : List ℕ) →
-    encode_utf8_all (lines_text (length (decimal (line_number first_line (before ++ range)))) first_line width before
-    range after) ≡ bs →
-    heading (level_text level) name message (length (decimal (line_number first_line (before ++ range)))) (line_number first_line before)
-    (column_in first_column before) bs
-    ≡ encode_utf8_all (message_text level first_line first_column width name message before range after)
-unfolding message_text
-heading_then level first_line first_column width name message before range after bs more =
-    let margin = length (decimal (line_number first_line (before ++ range))) in
-    simp append_assoc refl
-    ∙ sym (level_then level _ _ (ascii_then (codes ": ") _ _ refl
-    (text_then (shown message) _ _ (ascii_then (10 ∷ []) _ _ refl (text_then (blanks margin) _ _
-    (ascii_then (codes "--> ") _ _ refl (text_then (shown name) _ _
-    (ascii_then (codes ":") _ _ refl (decimal_then (line_number first_line before) _ _
-    (ascii_then (codes ":") _ _ refl (decimal_then (column_in first_column before) _ _
-    (ascii_then (10 ∷ []) _ _ refl (text_then (blanks margin) _ _
-    (ascii_then (codes " |\n") _ bs refl more))))))))))))))
+level_bytes : (level : Level) → encode_utf8_all (level_text level) ≡ level_text level
+level_bytes Error = encodes-IsAscii (codes "error") (ascii_by_test (codes "error") refl)
+level_bytes Warning = encodes-IsAscii (codes "warning") (ascii_by_test (codes "warning") refl)
+level_bytes Note = encodes-IsAscii (codes "note") (ascii_by_test (codes "note") refl)
+level_bytes Help = encodes-IsAscii (codes "help") (ascii_by_test (codes "help") refl)
 
-cond_then : (b : Bool) (ys bs : List ℕ) → encode_utf8_all ys ≡ bs →
-    encode_utf8_all (cond b (codes "...\n") [] ++ ys) ≡ cond b (codes "...\n") [] ++ bs
-cond_then true ys bs more = ascii_then (codes "...\n") ys bs refl more
-cond_then false ys bs more = more
+gap_then : (label ys bs : List ℕ) → encode_utf8_all ys ≡ bs →
+    encode_utf8_all (label_gap label ++ ys) ≡ label_gap label ++ bs
+gap_then [] ys bs more = more
+gap_then (c ∷ t) ys bs more = ascii_then (codes " ") ys bs refl more
 
-gap_then : (first last : ℕ) (ys bs : List ℕ) → encode_utf8_all ys ≡ bs →
-    encode_utf8_all (gap_text first last ++ ys) ≡ gap_text first last ++ bs
-gap_then first last ys bs more = cond_then (nat_lt (first + 1) last) ys bs more
+-- ---- colors
 
-one_line : (margin first_line width : ℕ) (before range after : List ℕ) →
-    nat_lt (line_number first_line before) (line_number first_line (before ++ range)) ≡ false →
-    encode_utf8_all (lines_text margin first_line width before range after)
-    ≡ encode_utf8_all (line_text margin (line_number first_line before)
-    (fitted width (start_line before range after)))
-unfolding lines_text
-one_line margin first_line width before range after same = rw same
-    (ap encode_utf8_all (append-nil (line_text margin (line_number first_line before)
-    (fitted width (start_line before range after)))))
+color_ascii : (color : Color) → list_all (λ c. ltb c 128) (color_code color) ≡ true
+color_ascii BoldRed = refl
+color_ascii BoldYellow = refl
+color_ascii BoldGreen = refl
+color_ascii BoldCyan = refl
+color_ascii BoldBlue = refl
+color_ascii Green = refl
 
-two_lines : (margin first_line width : ℕ) (before range after : List ℕ) →
-    nat_lt (line_number first_line before) (line_number first_line (before ++ range)) ≡ true →
-    encode_utf8_all (lines_text margin first_line width before range after)
-    ≡ encode_utf8_all (line_text margin (line_number first_line before)
-    (fitted width (start_line before range after)))
-    ++ (gap_text (line_number first_line before) (line_number first_line (before ++ range))
-    ++ encode_utf8_all (line_text margin (line_number first_line (before ++ range))
-    (fitted width (end_line range after))))
-unfolding lines_text
-two_lines margin first_line width before range after less =
-    rw less (text_then (line_text margin (line_number first_line before)
-    (fitted width (start_line before range after))) _ _
-    (gap_then (line_number first_line before) (line_number first_line (before ++ range)) _ _ refl))
+-- a part between the codes of a color
+painted_bytes : (is_colored : Bool) (color : Color) (text bs : List ℕ) →
+    encode_utf8_all text ≡ bs → encode_utf8_all (painted is_colored color text)
+    ≡ opening is_colored color ++ (bs ++ closing is_colored)
+painted_bytes false color text bs is = is ∙ sym (append-nil bs)
+painted_bytes true color text bs is =
+    ascii_then (color_code color) (text ++ plain_code) _ (color_ascii color)
+    (text_then text plain_code _ (encodes-IsAscii plain_code (ascii_by_test plain_code refl))
+    ∙ ap (λ (l : List ℕ). l ++ plain_code) is)
 
-pub last_number : (first_line : ℕ) (before range : List ℕ) → line_number first_line (before ++ range)
-    ≡ line_number first_line before + count_by is_line_feed range
-last_number first_line before range =
-    let sum = sum_by-append (λ c. cond (is_line_feed c) 1 0) before range in omega (arith, sum)
+painted_then : (is_colored : Bool) (color : Color) (text bs ys cs : List ℕ) →
+    encode_utf8_all text ≡ bs → encode_utf8_all ys ≡ cs →
+    encode_utf8_all (painted is_colored color text ++ ys)
+    ≡ (opening is_colored color ++ (bs ++ closing is_colored)) ++ cs
+painted_then is_colored color text bs ys cs is more =
+    text_then (painted is_colored color text) ys cs more
+    ∙ ap (λ (l : List ℕ). l ++ cs) (painted_bytes is_colored color text bs is)
 
-pub one_line_bytes : (level : Level) (first_line first_column width : ℕ) (name message before range after : List ℕ)
-    (word : List ℕ) (margin line column : ℕ) (l : Window) → word ≡ level_text level →
-    margin ≡ length (decimal (line_number first_line (before ++ range))) → line ≡ line_number first_line before →
-    column ≡ column_in first_column before →
-    l ≡ fitted width (start_line before range after) → line_number first_line (before ++ range) ≤ line_number first_line before →
-    heading word name message margin line column (encode_utf8_all (line_text margin line l))
-    ≡ encode_utf8_all (message_text level first_line first_column width name message before range after)
-one_line_bytes level first_line first_column width name message before range after word margin line column l is_word is_margin is_line is_column
-    is_l same =
-    rw (is_word, is_margin, is_line, is_column, is_l)
-    (heading_then level first_line first_column width name message before range after _
-    (one_line (length (decimal (line_number first_line (before ++ range)))) first_line width before range after
-    (le-ltb (line_number first_line before) (line_number first_line (before ++ range)) same)))
+-- a margin with a sign after it
+margin_then : (is_colored : Bool) (margin : ℕ) (sign ys cs : List ℕ) →
+    list_all (λ c. ltb c 128) sign ≡ true → encode_utf8_all ys ≡ cs →
+    encode_utf8_all (margin_text is_colored margin sign ++ ys)
+    ≡ (opening is_colored BoldBlue
+    ++ ((encode_utf8_all (blanks margin) ++ sign) ++ closing is_colored)) ++ cs
+margin_then is_colored margin sign ys cs ascii more =
+    painted_then is_colored BoldBlue (blanks margin ++ sign) _ ys cs
+    (text_then (blanks margin) sign _ (encodes-IsAscii sign (ascii_by_test sign ascii))) more
 
-pub two_lines_bytes : (level : Level) (first_line first_column width : ℕ) (name message before range after : List ℕ)
-    (word : List ℕ) (margin line column last : ℕ) (gap : List ℕ) (l m : Window) →
-    word ≡ level_text level →
-    margin ≡ length (decimal (line_number first_line (before ++ range))) → line ≡ line_number first_line before →
-    column ≡ column_in first_column before →
-    last ≡ line_number first_line (before ++ range) → gap
-    ≡ gap_text (line_number first_line before) (line_number first_line (before ++ range)) →
-    l ≡ fitted width (start_line before range after) → m ≡ fitted width (end_line range after) →
-    line_number first_line before < line_number first_line (before ++ range) →
-    heading word name message margin line column (encode_utf8_all (line_text margin line l))
-    ++ (gap ++ encode_utf8_all (line_text margin last m))
-    ≡ encode_utf8_all (message_text level first_line first_column width name message before range after)
-two_lines_bytes level first_line first_column width name message before range after word margin line column last gap l m is_word is_margin is_line
-    is_column is_last is_gap is_l is_m less =
-    rw (is_word, is_margin, is_line, is_column, is_last, is_gap, is_l, is_m)
-    (heading_more (level_text level) name message (length (decimal (line_number first_line (before ++ range))))
-    (line_number first_line before) (column_in first_column before) _ _
-    ∙ heading_then level first_line first_column width name message before range after _
-    (two_lines (length (decimal (line_number first_line (before ++ range)))) first_line width before range after
-    (lt-ltb (line_number first_line before) (line_number first_line (before ++ range)) less)))
+-- ---- rows
 
--- the remarks after it
-pub with_remarks : (level name message : List ℕ) (margin line column : ℕ) (a b t r : List ℕ) →
-    heading level name message margin line column a ≡ encode_utf8_all t → b ≡ encode_utf8_all r →
-    heading level name message margin line column (a ++ b) ≡ encode_utf8_all (t ++ r)
-with_remarks level name message margin line column a b t r is same =
-    sym (heading_more level name message margin line column a b)
-    ∙ (ap (λ (l : List ℕ). l ++ b) is ∙ (ap (λ (l : List ℕ). encode_utf8_all t ++ l) same
-    ∙ sym (encodes-append t r)))
+-- a line after its number, in two parts
+pub line_bytes : (is_colored : Bool) (margin filling : ℕ) (blue plain start end : List ℕ)
+    (row : Row) →
+    filling ≡ margin - length (decimal row.number) → blue ≡ opening is_colored BoldBlue →
+    plain ≡ closing is_colored →
+    start ≡ dots row.line.is_cut_before → end ≡ dots row.line.is_cut_after →
+    (blue ++ (decimal row.number ++ (encode_utf8_all (blanks filling) ++ (codes " |"
+    ++ (plain ++ codes " ")))))
+    ++ (start ++ (encode_utf8_all (shown row.line.before)
+    ++ (encode_utf8_all (shown row.line.marked) ++ (encode_utf8_all (shown row.line.after)
+    ++ (end ++ 10 ∷ [])))))
+    ≡ encode_utf8_all (line_text is_colored margin row)
+unfolding line_text
+line_bytes is_colored margin filling blue plain start end row is_filling is_blue is_plain is_start
+    is_end =
+    rw (is_filling, is_blue, is_plain, is_start, is_end) (simp append_assoc refl
+    ∙ sym (painted_then is_colored BoldBlue (decimal row.number
+    ++ (blanks (margin - length (decimal row.number)) ++ codes " |")) _ _ _
+    (decimal_then row.number _ _ (text_then (blanks (margin - length (decimal row.number))) _ _
+    (encodes-IsAscii (codes " |") (ascii_by_test (codes " |") refl))))
+    (ascii_then (codes " ") _ _ refl (dots_then row.line.is_cut_before _ _
+    (text_then (shown row.line.before) _ _ (text_then (shown row.line.marked) _ _
+    (text_then (shown row.line.after) _ _ (dots_then row.line.is_cut_after _ _ newline))))))))
 
--- the same after two lines
-pub two_with_remarks : (level name message : List ℕ) (margin line column : ℕ)
-    (a gap c b t r : List ℕ) →
-    heading level name message margin line column a ++ (gap ++ c) ≡ encode_utf8_all t →
-    b ≡ encode_utf8_all r →
-    heading level name message margin line column (a ++ (gap ++ (c ++ b)))
-    ≡ encode_utf8_all (t ++ r)
-two_with_remarks level name message margin line column a gap c b t r is same =
-    ap (heading level name message margin line column)
-    (sym (append_assoc a (gap ++ c) b ∙ ap (λ (l : List ℕ). a ++ l) (append_assoc gap c b)))
-    ∙ with_remarks level name message margin line column (a ++ (gap ++ c)) b t r
-    (sym (heading_more level name message margin line column a (gap ++ c)) ∙ is) same
+-- the marks of a line, in two parts
+pub marks_bytes : (is_colored : Bool) (margin : ℕ) (blue plain color start gap : List ℕ)
+    (row : Row) → blue ≡ opening is_colored BoldBlue → plain ≡ closing is_colored →
+    color ≡ opening is_colored (mark_color row.mark) → start ≡ dots row.line.is_cut_before →
+    gap ≡ label_gap row.label →
+    (blue ++ (encode_utf8_all (blanks margin) ++ (codes " |" ++ plain)))
+    ++ (color ++ (codes " " ++ (encode_utf8_all (blanks (length start))
+    ++ (encode_utf8_all (blanks (columns (shown row.line.before)))
+    ++ (encode_utf8_all (marks_below (mark_glyph row.mark) row.line.marked)
+    ++ (gap ++ (encode_utf8_all (shown (chars row.label)) ++ (plain ++ 10 ∷ []))))))))
+    ≡ encode_utf8_all (marks_text is_colored margin row)
+unfolding marks_text
+marks_bytes is_colored margin blue plain color start gap row is_blue is_plain is_color is_start
+    is_gap =
+    rw (is_blue, is_plain, is_color, is_start, is_gap) (simp append_assoc refl
+    ∙ sym (margin_then is_colored margin (codes " |") _ _ refl
+    (painted_then is_colored (mark_color row.mark) (codes " "
+    ++ (blanks (length (dots row.line.is_cut_before))
+    ++ (blanks (columns (shown row.line.before))
+    ++ (marks_below (mark_glyph row.mark) row.line.marked
+    ++ (label_gap row.label ++ shown (chars row.label)))))) _ _ _
+    (ascii_then (codes " ") _ _ refl (text_then (blanks (length (dots row.line.is_cut_before))) _ _
+    (text_then (blanks (columns (shown row.line.before))) _ _
+    (text_then (marks_below (mark_glyph row.mark) row.line.marked) _ _
+    (gap_then row.label _ _ refl)))))
+    newline)))
 
--- the range that is shown
-pub placed : (m : Message) (start end : ℕ) → start ≡ place_on_line m.source m.start →
-    end ≡ place_on_line m.source m.end →
-    message_text m.level m.first_line m.first_column m.width (chars m.name) (chars m.message)
-    (chars (take start m.source)) (chars (slice_range m.source start end)) (chars (drop end m.source))
-    ++ remarks_text (margin_of m.first_line (chars (take start m.source))
-    (chars (slice_range m.source start end))) m.remarks
-    ≡ diagnostic_text m
-unfolding diagnostic_text
-placed m start end is_start is_end = rw (is_start, is_end) refl
+pub gap_bytes : (is_colored : Bool) (blue plain : List ℕ) → blue ≡ opening is_colored BoldBlue →
+    plain ≡ closing is_colored → blue ++ (codes "..." ++ (plain ++ 10 ∷ []))
+    ≡ encode_utf8_all (gap_text is_colored true)
+gap_bytes is_colored blue plain is_blue is_plain =
+    rw (is_blue, is_plain) (simp append_assoc refl
+    ∙ sym (painted_then is_colored BoldBlue (codes "...") _ _ _
+    (encodes-IsAscii (codes "...") (ascii_by_test (codes "...") refl)) newline))
+
+-- ---- the heading and the remarks
+
+-- the three lines before the rows
+pub heading_bytes : (is_colored : Bool) (margin line column : ℕ) (color level plain blue : List ℕ)
+    (m : Message) → margin ≡ margin_of m → line ≡ first_number m → column ≡ column_of m →
+    color ≡ opening is_colored (level_color m.level) → level ≡ level_text m.level →
+    plain ≡ closing is_colored → blue ≡ opening is_colored BoldBlue →
+    ((color ++ (level ++ (plain ++ (codes ": " ++ (encode_utf8_all (shown (chars m.message))
+    ++ 10 ∷ [])))))
+    ++ (blue ++ (encode_utf8_all (blanks margin) ++ (codes "-->" ++ (plain ++ (codes " "
+    ++ (encode_utf8_all (shown (chars m.name)) ++ (codes ":" ++ (decimal line ++ (codes ":"
+    ++ (decimal column ++ 10 ∷ [])))))))))))
+    ++ (blue ++ (encode_utf8_all (blanks margin) ++ (codes " |" ++ (plain ++ 10 ∷ []))))
+    ≡ encode_utf8_all (heading_text is_colored m)
+unfolding heading_text
+heading_bytes is_colored margin line column color level plain blue m is_margin is_line is_column
+    is_color is_level is_plain is_blue =
+    rw (is_margin, is_line, is_column, is_color, is_level, is_plain, is_blue)
+    (simp append_assoc refl
+    ∙ sym (painted_then is_colored (level_color m.level) (level_text m.level) _ _ _
+    (level_bytes m.level) (ascii_then (codes ": ") _ _ refl
+    (text_then (shown (chars m.message)) _ _ (ascii_then (10 ∷ []) _ _ refl
+    (margin_then is_colored (margin_of m) (codes "-->") _ _ refl (ascii_then (codes " ") _ _ refl
+    (text_then (shown (chars m.name)) _ _ (ascii_then (codes ":") _ _ refl
+    (decimal_then (first_number m) _ _ (ascii_then (codes ":") _ _ refl
+    (decimal_then (column_of m) _ _ (ascii_then (10 ∷ []) _ _ refl
+    (margin_then is_colored (margin_of m) (codes " |") _ _ refl newline))))))))))))))
+
+-- the line before the remarks
+pub bar_bytes : (is_colored : Bool) (margin : ℕ) (blue plain ys cs : List ℕ) →
+    blue ≡ opening is_colored BoldBlue → plain ≡ closing is_colored → encode_utf8_all ys ≡ cs →
+    (blue ++ (encode_utf8_all (blanks margin) ++ (codes " |" ++ (plain ++ 10 ∷ [])))) ++ cs
+    ≡ encode_utf8_all (margin_text is_colored margin (codes " |") ++ (10 ∷ [] ++ ys))
+bar_bytes is_colored margin blue plain ys cs is_blue is_plain is =
+    rw (is_blue, is_plain) (simp append_assoc refl
+    ∙ sym (margin_then is_colored margin (codes " |") _ _ refl
+    (ascii_then (10 ∷ []) ys cs refl is)))
 
 -- one remark
-pub remark_bytes : (margin : ℕ) (r : Remark) →
-    encode_utf8_all (blanks margin) ++ (codes " = " ++ (level_text r.level ++ (codes ": "
-    ++ (encode_utf8_all (shown (chars r.text)) ++ 10 ∷ []))))
-    ≡ encode_utf8_all (remark_text margin r)
-remark_bytes margin r =
-    sym (text_then (blanks margin) _ _ (ascii_then (codes " = ") _ _ refl
-    (level_then r.level _ _ (ascii_then (codes ": ") _ _ refl
-    (text_then (shown (chars r.text)) _ _ newline)))))
+pub remark_bytes : (is_colored : Bool) (margin : ℕ) (blue plain word : List ℕ) (r : Remark) →
+    blue ≡ opening is_colored BoldBlue → plain ≡ closing is_colored → word ≡ level_text r.level →
+    blue ++ (encode_utf8_all (blanks margin) ++ (codes " =" ++ (plain ++ (codes " " ++ (word
+    ++ (codes ": " ++ (encode_utf8_all (shown (chars r.text)) ++ 10 ∷ [])))))))
+    ≡ encode_utf8_all (remark_text is_colored margin r)
+remark_bytes is_colored margin blue plain word r is_blue is_plain is_word =
+    rw (is_blue, is_plain, is_word) (simp append_assoc refl
+    ∙ sym (margin_then is_colored margin (codes " =") _ _ refl
+    (ascii_then (codes " ") _ _ refl (level_then r.level _ _ (ascii_then (codes ": ") _ _ refl
+    (text_then (shown (chars r.text)) _ _ newline))))))

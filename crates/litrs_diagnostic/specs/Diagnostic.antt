@@ -1,18 +1,22 @@
 -- The text of a message on a range of a text.
-use Rattle.std.specs.Prelude.{ℕ, Bool, ◌||◌, ◌+◌, ◌-◌, List, [], ◌∷◌, ◌++◌, length, take, drop, replicate, max, nat_lt, codes, slice_range, if◌then◌else◌}
+use Rattle.std.specs.Prelude.{ℕ, Bool, false, true, ◌||◌, List, [], ◌∷◌, ◌++◌, None, Some, length, nat_lt, codes, if◌then◌else◌}
 use Rattle.std.specs.Fmt.{decimal}
 use Rattle.std.specs.List.{flat_map}
 use Rattle.std.specs.Str.{chars}
 use Rattle.litrs_base.specs.declared.err.ParseError.{ParseError}
 use Rattle.litrs_base.specs.Kind.{kind_text}
 use Rattle.litrs_base.specs.Refusal.{kind_of, marked_span}
-use Rattle.litrs_diagnostic.specs.Position.{is_line_feed, line_number, column_in}
+use Rattle.litrs_diagnostic.specs.Colors.{level_color, painted}
+use Rattle.litrs_diagnostic.specs.Label.{LabelOn, greatest_number, rows_between}
+use Rattle.litrs_diagnostic.specs.Line.{column_at, end_line_at, line_at, start_line_at}
+use Rattle.litrs_diagnostic.specs.Position.{is_line_feed}
 use Rattle.litrs_diagnostic.specs.Printable.{is_printable}
-use Rattle.litrs_diagnostic.specs.Shown.{blank, caret, shown, columns}
-use Rattle.litrs_diagnostic.specs.Line.{place_on_line, start_line, end_line}
-use Rattle.litrs_diagnostic.specs.Window.{Window, fitted}
+use Rattle.litrs_diagnostic.specs.Row.{Row, line_feed, margin_text, row_if, rows_text}
+use Rattle.litrs_diagnostic.specs.Shown.{shown}
+use Rattle.litrs_diagnostic.specs.Window.{fitted}
 use Rattle.litrs_diagnostic.specs.declared.levels.Level.{Level}
 use Rattle.litrs_diagnostic.specs.declared.levels.Level.TheVariants.{Error, Warning, Note, Help}
+use Rattle.litrs_diagnostic.specs.declared.marks.Mark.TheVariants.{Primary}
 
 -- The word that a message begins with.
 abbrev pub level_text : Level → List ℕ
@@ -21,81 +25,23 @@ level_text Warning = codes "warning"
 level_text Note = codes "note"
 level_text Help = codes "help"
 
-abbrev pub blanks : ℕ → List ℕ
-blanks n = replicate n blank
-
--- An LF.
-abbrev pub line_feed : List ℕ
-line_feed = 10 ∷ []
-
--- The carets below a marked text: as many as it has columns, and at least one.
-abbrev pub carets : List ℕ → List ℕ
-carets marked = replicate (max 1 (columns (shown marked))) caret
-
--- `...` in place of the rest of a line that is cut.
-abbrev pub dots : (is_cut : Bool) → List ℕ
-dots is_cut = if is_cut then codes "..." else []
-
--- A line after its number in a margin of the width `margin`. Below it there are spaces, as wide as
--- the text before the marked part is shown, and carets below the marked part.
-unfoldable pub line_text : (margin number : ℕ) → Window → List ℕ
-line_text margin number line =
-    let start = dots line.is_cut_before in
-    decimal number ++ (blanks (margin - length (decimal number)) ++ (codes " | "
-    ++ (start ++ (shown line.before ++ (shown line.marked ++ (shown line.after
-    ++ (dots line.is_cut_after ++ (line_feed ++ (blanks margin ++ (codes " | "
-    ++ (blanks (length start) ++ (blanks (columns (shown line.before))
-    ++ (carets line.marked ++ line_feed)))))))))))))
-
--- `...` if there are lines between those with the numbers `first` and `last`.
-abbrev pub gap_text : (first last : ℕ) → List ℕ
-gap_text first last = if nat_lt (first + 1) last then codes "...\n" else []
-
--- The lines that are shown: the one on which the range begins, and the one on which it ends, if
--- that is a later one, after `...` if there are lines between them. Each has at most `width`
--- columns.
-unfoldable pub lines_text : (margin first_line width : ℕ) (before range after : List ℕ) → List ℕ
-lines_text margin first_line width before range after =
-    let first = line_number first_line before in
-    let last = line_number first_line (before ++ range) in
-    line_text margin first (fitted width (start_line before range after))
-    ++ (if nat_lt first last
-    then gap_text first last ++ line_text margin last (fitted width (end_line range after))
-    else [])
-
--- The width of the margin: that of the greatest number in it.
-abbrev pub margin_of : (first_line : ℕ) → (before range : List ℕ) → ℕ
-margin_of first_line before range = length (decimal (line_number first_line (before ++ range)))
-
--- The level, the message, the place of the start of the range, and the lines. The margin is as wide
--- as the greatest number in it.
-unfoldable pub message_text : Level → (first_line first_column width : ℕ)
-    (name message before range after : List ℕ) → List ℕ
-message_text level first_line first_column width name message before range after =
-    let margin = length (decimal (line_number first_line (before ++ range))) in
-    level_text level ++ (codes ": " ++ (shown message ++ (line_feed
-    ++ (blanks margin ++ (codes "--> " ++ (shown name ++ (codes ":"
-    ++ (decimal (line_number first_line before) ++ (codes ":"
-    ++ (decimal (column_in first_column before) ++ (line_feed
-    ++ (blanks margin ++ (codes " |\n"
-    ++ lines_text margin first_line width before range after)))))))))))))
-
 -- A remark below a message. Its text is in bytes.
 pub record Remark : Type 0 where
   pub level : Level
   pub text : List ℕ
 
 -- The line of a remark, after a margin.
-abbrev pub remark_text : (margin : ℕ) → Remark → List ℕ
-remark_text margin r =
-    blanks margin ++ (codes " = " ++ (level_text r.level ++ (codes ": " ++ (shown (chars r.text)
-    ++ line_feed))))
+abbrev pub remark_text : (is_colored : Bool) → (margin : ℕ) → Remark → List ℕ
+remark_text is_colored margin r =
+    margin_text is_colored margin (codes " =") ++ (codes " " ++ (level_text r.level ++ (codes ": "
+    ++ (shown (chars r.text) ++ line_feed))))
 
 -- The lines of all remarks, after an empty one if there are any.
-abbrev pub remarks_text : (margin : ℕ) → List Remark → List ℕ
-remarks_text margin [] = []
-remarks_text margin (r ∷ rs) =
-    blanks margin ++ (codes " |\n" ++ flat_map (remark_text margin) (r ∷ rs))
+abbrev pub remarks_text : (is_colored : Bool) → (margin : ℕ) → List Remark → List ℕ
+remarks_text is_colored margin [] = []
+remarks_text is_colored margin (r ∷ rs) =
+    margin_text is_colored margin (codes " |")
+    ++ (line_feed ++ flat_map (remark_text is_colored margin) (r ∷ rs))
 
 -- A message on the bytes from `start` up to `end` of `source`, whose first character is at
 -- `first_line` and `first_column`. All texts are bytes.
@@ -109,6 +55,8 @@ pub record Message : Type 0 where
   pub first_line : ℕ
   pub first_column : ℕ
   pub width : ℕ
+  pub label : List ℕ
+  pub labels : List LabelOn
   pub remarks : List Remark
 
 -- The error on a range of a whole text, in 140 columns.
@@ -123,20 +71,89 @@ error_on name source start end message = record {
   first_line = 1;
   first_column = 1;
   width = 140;
+  label = [];
+  labels = [];
   remarks = [];
 }
 
--- The characters of a message, with its remarks. A range that ends after the last line is shown as
--- if it ended with that line.
-unfoldable pub diagnostic_text : Message → List ℕ
-diagnostic_text m =
-    let start = place_on_line m.source m.start in
-    let end = place_on_line m.source m.end in
-    let before = chars (take start m.source) in
-    let range = chars (slice_range m.source start end) in
-    message_text m.level m.first_line m.first_column m.width (chars m.name) (chars m.message)
-    before range (chars (drop end m.source))
-    ++ remarks_text (margin_of m.first_line before range) m.remarks
+-- The numbers of the lines on which the range begins and ends, and the column of its start.
+abbrev pub first_number : Message → ℕ
+first_number m = line_at m.first_line m.source m.start
+
+abbrev pub last_number : Message → ℕ
+last_number m = line_at m.first_line m.source m.end
+
+abbrev pub column_of : Message → ℕ
+column_of m = column_at m.first_column m.source m.start
+
+-- `true` iff the range ends on a later line than it begins on.
+abbrev pub is_long : Message → Bool
+is_long m = nat_lt (first_number m) (last_number m)
+
+-- The label of the first line of a range: none if the range ends on a later line.
+abbrev pub first_label : (is_long : Bool) → (label : List ℕ) → List ℕ
+first_label is_long label = if is_long then [] else label
+
+-- The line on which the range begins.
+unfoldable pub first_row : Message → Row
+first_row m = record {
+  number = first_number m;
+  line = fitted m.width (start_line_at m.source m.start m.end);
+  mark = Primary m.level;
+  label = first_label (is_long m) m.label;
+}
+
+-- The line on which the range ends, if that is a later one.
+unfoldable pub last_row : Message → Row
+last_row m = record {
+  number = last_number m;
+  line = fitted m.width (end_line_at m.source m.start m.end);
+  mark = Primary m.level;
+  label = m.label;
+}
+
+-- The rows of a message: those of the range, and between them those of the labels, each part in
+-- the order of the labels. If these are in the order of their lines, all rows are.
+unfoldable pub rows_of : Message → List Row
+rows_of m =
+    let first = first_number m in
+    let last = last_number m in
+    rows_between m.first_line m.width 0 (Some first) m.labels
+    ++ (row_if true (first_row m)
+    ++ (rows_between m.first_line m.width first (Some last) m.labels
+    ++ (row_if (is_long m) (last_row m)
+    ++ rows_between m.first_line m.width last None m.labels)))
+
+-- The width of the margin: that of the greatest number in it.
+abbrev pub margin_of : Message → ℕ
+margin_of m = length (decimal (greatest_number m.first_line (last_number m) m.labels))
+
+-- The level, the message, the place of the start of the range, and an empty line.
+unfoldable pub heading_text : (is_colored : Bool) → Message → List ℕ
+heading_text is_colored m =
+    painted is_colored (level_color m.level) (level_text m.level)
+    ++ (codes ": " ++ (shown (chars m.message) ++ (line_feed
+    ++ (margin_text is_colored (margin_of m) (codes "-->")
+    ++ (codes " " ++ (shown (chars m.name) ++ (codes ":"
+    ++ (decimal (first_number m) ++ (codes ":"
+    ++ (decimal (column_of m) ++ (line_feed
+    ++ (margin_text is_colored (margin_of m) (codes " |") ++ line_feed))))))))))))
+
+-- The characters of a message, with the codes of colors or without: the heading, the lines with
+-- their marks, and the remarks.
+unfoldable pub message_text : (is_colored : Bool) → Message → List ℕ
+message_text is_colored m =
+    heading_text is_colored m
+    ++ (rows_text is_colored (margin_of m) None (rows_of m)
+    ++ remarks_text is_colored (margin_of m) m.remarks)
+
+-- The characters of a message without colors.
+abbrev pub diagnostic_text : Message → List ℕ
+diagnostic_text m = message_text false m
+
+-- The characters of a message in color.
+abbrev pub colored_text : Message → List ℕ
+colored_text m = message_text true m
 
 -- The message on the refusal of a text: its kind, on the part of the text to mark.
 abbrev pub refusal_message : (name text : List ℕ) → ParseError → (width : ℕ) → Message

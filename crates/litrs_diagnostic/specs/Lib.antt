@@ -10,6 +10,12 @@ pub mod Shown
 pub mod Line
 -- the part of a line that is shown
 pub mod Window
+-- the colors of a terminal
+pub mod Colors
+-- a line with its marks
+pub mod Row
+-- labels of further ranges
+pub mod Label
 -- the lines and windows of the program
 pub mod Rows
 -- messages

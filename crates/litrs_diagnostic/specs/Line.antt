@@ -1,7 +1,8 @@
 -- The lines of a text that a range marks.
-use Rattle.std.specs.Prelude.{ℕ, ◌==◌, ◌&&◌, ◌||◌, Bool, false, List, [], ◌∷◌, ◌++◌, length, min, take, drop, if◌then◌else◌}
+use Rattle.std.specs.Prelude.{ℕ, ◌==◌, ◌&&◌, ◌||◌, Bool, false, List, [], ◌∷◌, ◌++◌, length, min, take, drop, slice_range, if◌then◌else◌}
+use Rattle.std.specs.Str.{chars}
 use Rattle.litrs_base.specs.Text.{first_passes}
-use Rattle.litrs_diagnostic.specs.Position.{is_line_feed, last_line}
+use Rattle.litrs_diagnostic.specs.Position.{is_line_feed, last_line, line_number, column_in}
 
 -- `true` iff the character is CR.
 abbrev pub is_carriage_return : ℕ → Bool
@@ -57,3 +58,28 @@ end_line range after =
     let mark = last_line range in
     let rest = first_line (mark ++ after) in
     record { before = []; marked = take (length mark) rest; after = drop (length mark) rest }
+
+-- The number of the line of a place, and its column, in a text whose first character is at
+-- `first_line` and `first_column`.
+abbrev pub line_at : (first_line : ℕ) → (source : List ℕ) → (place : ℕ) → ℕ
+line_at first_line source place =
+    line_number first_line (chars (take (place_on_line source place) source))
+
+abbrev pub column_at : (first_column : ℕ) → (source : List ℕ) → (place : ℕ) → ℕ
+column_at first_column source place =
+    column_in first_column (chars (take (place_on_line source place) source))
+
+-- The line on which the bytes from `start` up to `end` begin, and the one on which they end. A
+-- range that ends after the last line is taken as if it ended with that line.
+unfoldable pub start_line_at : (source : List ℕ) → (start end : ℕ) → Line
+start_line_at source start end =
+    let from = place_on_line source start in
+    let to = place_on_line source end in
+    start_line (chars (take from source)) (chars (slice_range source from to))
+    (chars (drop to source))
+
+unfoldable pub end_line_at : (source : List ℕ) → (start end : ℕ) → Line
+end_line_at source start end =
+    let from = place_on_line source start in
+    let to = place_on_line source end in
+    end_line (chars (slice_range source from to)) (chars (drop to source))

@@ -15,6 +15,10 @@ abbrev pub AreLineStarts : (source starts : List ℕ) → Type 0
 AreLineStarts source starts =
     (k : ℕ) → k < length starts → IsLineStart source (k + 1) (slice_index starts k)
 
+-- There is a start for each LF, so no start is missing.
+abbrev pub HasEachStart : (source starts : List ℕ) → Type 0
+HasEachStart source starts = length starts ≡ count_by is_line_feed (chars source)
+
 -- The first line of the text has `len` bytes, with the LF that ends it.
 pub record IsLineLen (text : List ℕ) (len : ℕ) : Type 0 where
   pub boundary : IsCharBoundary text len

@@ -5,7 +5,7 @@ use Rattle.std.specs.Char.Escape.{escape_unicode}
 use Rattle.unicode_width.specs.Width.{char_width}
 use Rattle.litrs_diagnostic.specs.Printable.{is_printable}
 
--- A space, a tab and a caret.
+-- A space, a tab, a caret and a dash.
 abbrev pub blank : ℕ
 blank = 32
 
@@ -14,6 +14,9 @@ tab = 9
 
 abbrev pub caret : ℕ
 caret = 94
+
+abbrev pub dash : ℕ
+dash = 45
 
 -- A tab is shown as four blanks, and a character that is not printable as `\u{..}`.
 unfoldable pub shown_char : ℕ → List ℕ

@@ -1,7 +1,7 @@
 //! An index of the lines of a text.
-ghost use Rattle.std.specs.Prelude.{◌≡◌, take, IfOk, IfSome};
+ghost use Rattle.std.specs.Prelude.{◌≡◌, take, count_by, IfOk, IfSome, IfNone};
 ghost use Rattle.std.specs.Str.{chars, IsCharBoundary};
-ghost use Rattle.litrs_diagnostic.specs.Position.{line_number, column_number};
+ghost use Rattle.litrs_diagnostic.specs.Position.{is_line_feed, line_number, column_number};
 ghost use Rattle.litrs_diagnostic.specs.Lines.{IsLineLen};
 
 use crate::places::{LineColumn, position};
@@ -24,7 +24,7 @@ impl<'a> Model for Lines<'a> {
     ghost use Rattle.std.specs.Prelude.{ℕ, List};
     ghost use Rattle.std.specs.List.Sorted.{IsNonDecreasing};
     ghost use Rattle.std.specs.Str.{IsUtf8};
-    ghost use Rattle.litrs_diagnostic.specs.Lines.{AreLineStarts};
+    ghost use Rattle.litrs_diagnostic.specs.Lines.{AreLineStarts, HasEachStart};
 
     // The text.
     ghost Value = { List ℕ };
@@ -33,7 +33,8 @@ impl<'a> Model for Lines<'a> {
 
     ghost invariant = { λ lines. IsUtf8 lines.source.now
         × AreLineStarts lines.source.now lines.starts.items
-        × IsNonDecreasing lines.starts.items };
+        × IsNonDecreasing lines.starts.items
+        × HasEachStart lines.source.now lines.starts.items };
 }
 
 impl<'a> Lines<'a> {
@@ -79,7 +80,8 @@ impl<'a> Lines<'a> {
 /// Returns the number of bytes of the first line of `text` with its LF, or `None` if there is no
 /// LF.
 fn line_len(text: &str) -> Option<usize>
-    ensures { IfSome result (IsLineLen text.now) }
+    ensures some { IfSome result (IsLineLen text.now) }
+    ensures none { IfNone result (count_by is_line_feed (chars text.now) ≡ 0) }
 {
     let at = memchr(b'\n', text.as_bytes())?;
     Some(at + 1)

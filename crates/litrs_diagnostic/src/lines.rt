@@ -1,10 +1,10 @@
 //! The lines that a range marks.
 ghost use Rattle.std.specs.Prelude.{◌≡◌, ◌++◌, ◌≤◌, length, take, drop, slice_range, List, ℕ};
 ghost use Rattle.std.specs.Str.{chars, IsCharBoundary, IsUtf8};
-ghost use Rattle.litrs_diagnostic.specs.Line.{first_line, without_line_end, place_on_line, start_line, end_line};
+ghost use Rattle.litrs_diagnostic.specs.Line.{first_line, without_line_end, place_on_line, start_line, end_line, start_line_at, end_line_at, line_at, column_at};
 ghost use Rattle.litrs_diagnostic.specs.Rows.{line_of};
 
-use crate::places::last_line;
+use crate::places::{LineColumn, last_line, place_in};
 
 /// A line, cut at both ends of the marked part.
 #[derive(Clone, Copy)]
@@ -14,8 +14,42 @@ pub(crate) struct Line<'a> {
     pub(crate) after: &'a str,
 }
 
+/// Returns the line on which the bytes from `start` up to `end` begin.
+pub(crate) fn start_line_at(source: &str, start: usize, end: usize) -> Line<'_>
+    requires start { IsCharBoundary source.now start }
+    requires end { IsCharBoundary source.now end }
+    requires in_order { start ≤ end }
+    ensures { line_of result ≡ start_line_at source.now start end }
+{
+    let from = place_on_line(source, start);
+    let to = place_on_line(source, end);
+    start_line(source, from, to)
+}
+
+/// Returns the line on which the bytes from `start` up to `end` end, a later one.
+pub(crate) fn end_line_at(source: &str, start: usize, end: usize) -> Line<'_>
+    requires start { IsCharBoundary source.now start }
+    requires end { IsCharBoundary source.now end }
+    requires in_order { start ≤ end }
+    ensures { line_of result ≡ end_line_at source.now start end }
+{
+    let from = place_on_line(source, start);
+    let to = place_on_line(source, end);
+    end_line(source, from, to)
+}
+
+/// Returns the place of the byte `at`, in a text whose first character is at `first_line` and
+/// `first_column`.
+pub(crate) fn place_at(source: &str, at: usize, first_line: u32, first_column: u32) -> LineColumn
+    requires { IsCharBoundary source.now at }
+    ensures line { result.line ≡ line_at first_line source.now at }
+    ensures column { result.column ≡ column_at first_column source.now at }
+{
+    place_in(source, place_on_line(source, at), first_line, first_column)
+}
+
 /// Returns the line on which a range begins.
-pub(crate) fn start_line(source: &str, start: usize, end: usize) -> Line<'_>
+fn start_line(source: &str, start: usize, end: usize) -> Line<'_>
     requires start { IsCharBoundary source.now start }
     requires end { IsCharBoundary source.now end }
     requires in_order { start ≤ end }
@@ -32,7 +66,7 @@ pub(crate) fn start_line(source: &str, start: usize, end: usize) -> Line<'_>
 }
 
 /// Returns the line on which a range ends that begins on an earlier line.
-pub(crate) fn end_line(source: &str, start: usize, end: usize) -> Line<'_>
+fn end_line(source: &str, start: usize, end: usize) -> Line<'_>
     requires start { IsCharBoundary source.now start }
     requires end { IsCharBoundary source.now end }
     requires in_order { start ≤ end }
@@ -78,7 +112,7 @@ fn cut_first_line(text: &str, len: usize) -> (&str, &str)
 }
 
 /// Returns `place`, or the end of the last line of `text` if `place` is after it.
-pub(crate) fn place_on_line(text: &str, place: usize) -> usize
+fn place_on_line(text: &str, place: usize) -> usize
     requires { IsCharBoundary text.now place }
     ensures value { result ≡ place_on_line text.now place }
     ensures boundary { IsCharBoundary text.now result }

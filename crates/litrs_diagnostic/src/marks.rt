@@ -2,9 +2,11 @@
 ghost use Rattle.std.specs.Prelude.{◌≡◌, replicate};
 ghost use Rattle.std.specs.Fmt.{WritesOnOk};
 ghost use Rattle.std.specs.Str.{chars, encode_utf8_all};
-ghost use Rattle.litrs_diagnostic.specs.Diagnostic.{carets};
+ghost use Rattle.litrs_diagnostic.specs.Row.{mark_color, mark_glyph, marks_below};
 ghost use Rattle.litrs_diagnostic.specs.Shown.{blank, shown_char, shown, columns};
 
+use crate::colors::Color;
+use crate::levels::Level;
 use crate::printable::is_printable;
 use std::fmt;
 use unicode_width::UnicodeWidthChar;
@@ -55,17 +57,52 @@ impl fmt::Display for Below<'_> {
     }
 }
 
-/// Carets as wide as a text is shown, but at least one.
+/// The marks below a part of a line.
 #[derive(Clone, Copy)]
-pub(crate) struct Carets<'a>(pub(crate) &'a str);
+pub(crate) enum Mark {
+    /// Those of the range of a message of this level.
+    Primary(Level),
+    /// Those of a label.
+    Secondary,
+}
 
-impl fmt::Display for Carets<'_> {
+impl Mark {
+    /// Returns the character of the marks.
+    fn glyph(self) -> char
+        ensures { result ≡ mark_glyph self }
+    {
+        match self {
+            Mark::Primary(_) => '^',
+            Mark::Secondary => '-',
+        }
+    }
+
+    /// Returns the color of the marks.
+    pub(crate) fn color(self) -> Color
+        ensures { result ≡ mark_color self }
+    {
+        match self {
+            Mark::Primary(level) => level.color(),
+            Mark::Secondary => Color::BoldBlue,
+        }
+    }
+}
+
+/// Marks as wide as a text is shown, but at least one.
+#[derive(Clone, Copy)]
+pub(crate) struct Marks<'a> {
+    pub(crate) mark: Mark,
+    pub(crate) text: &'a str,
+}
+
+impl fmt::Display for Marks<'_> {
     ghost use Rattle.std.specs.Prelude.{Some};
 
-    ghost output = { λ text. Some (encode_utf8_all (carets (chars text.0.now))) };
+    ghost output = { λ it. Some (encode_utf8_all (
+        marks_below (mark_glyph it.mark) (chars it.text.now))) };
 
     fn fmt<W: fmt::Write>(&self, f: &mut fmt::Formatter<W>) -> fmt::Result {
-        write_carets(f, self.0)
+        write_marks(f, self.text, self.mark.glyph())
     }
 }
 
@@ -80,15 +117,15 @@ fn write_text<W: fmt::Write>(f: &mut fmt::Formatter<W>, text: &str) -> fmt::Resu
     Ok(())
 }
 
-/// Writes the carets below `text`.
-fn write_carets<W: fmt::Write>(f: &mut fmt::Formatter<W>, text: &str) -> fmt::Result
+/// Writes the marks below `text`.
+fn write_marks<W: fmt::Write>(f: &mut fmt::Formatter<W>, text: &str, glyph: char) -> fmt::Result
     ensures { WritesOnOk W.write_str_gives f.old result
-        (encode_utf8_all (carets (chars text.now))) f.new }
+        (encode_utf8_all (marks_below glyph (chars text.now))) f.new }
 {
     if text.chars().all(|c| shown_width(c) == 0) {
-        write_times(f, '^', 1)
+        write_times(f, glyph, 1)
     } else {
-        write_below(f, text, '^')
+        write_below(f, text, glyph)
     }
 }
 

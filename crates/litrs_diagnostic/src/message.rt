@@ -2,13 +2,10 @@
 ghost use Rattle.std.specs.Prelude.{◌≡◌, ◌≤◌};
 ghost use Rattle.std.specs.Str.{IsCharBoundary};
 
+use crate::label::Label;
 use crate::levels::Level;
-use crate::lines::{end_line, place_on_line, start_line};
-use crate::marks::{Blanks, Shown};
-use crate::places::{LineColumn, line_feeds, place_in};
-use crate::remarks::{Remark, Remarks};
-use crate::row::{Row, digit_count, gap};
-use crate::window::fitted;
+use crate::remarks::Remark;
+use crate::text::write_message;
 use std::fmt;
 use std::ops::Range;
 
@@ -22,7 +19,8 @@ use std::ops::Range;
 /// after it is shown as if it ended with that line. If a line has more columns than `width`, the
 /// range comes first, if it fits, and then the text around it.
 ///
-/// [`Diagnostic::new`] makes an error on a whole text, and the methods `with_..` change it.
+/// [`Diagnostic::new`] makes an error on a whole text, and the methods `with_..` change it. A
+/// [`Label`] marks a further range.
 #[derive(Clone, Copy, Debug)]
 pub struct Diagnostic<'a> {
     /// The severity of the message.
@@ -44,6 +42,10 @@ pub struct Diagnostic<'a> {
     /// The greatest number of columns of a line that are shown, without its number and the `...` in
     /// place of the rest. rustc uses 140 if it does not know the width of its terminal.
     pub width: usize,
+    /// The label after the marks of the range, or an empty text.
+    pub label: &'a str,
+    /// The labels of further ranges.
+    pub labels: &'a [Label<'a>],
     /// The remarks below the lines.
     pub remarks: &'a [Remark<'a>],
     /// The start is a character boundary of the text.
@@ -57,7 +59,7 @@ pub struct Diagnostic<'a> {
 impl<'a> Diagnostic<'a> {
     ghost use Rattle.litrs_diagnostic.specs.Diagnostic.{error_on};
     ghost use Rattle.std.specs.Prelude.{map};
-    ghost use Rattle.litrs_diagnostic.specs.Rows.{message_of, remark_of};
+    ghost use Rattle.litrs_diagnostic.specs.Rows.{label_of, message_of, remark_of};
 
     /// Creates an error on a range of `source`, a whole text that is called `name`. Of each line
     /// 140 columns are shown.
@@ -83,6 +85,8 @@ impl<'a> Diagnostic<'a> {
             first_column: 1,
             message,
             width: 140,
+            label: "",
+            labels: &[],
             remarks: &[],
         }
     }
@@ -104,6 +108,50 @@ impl<'a> Diagnostic<'a> {
         self
     }
 
+    /// Returns the diagnostic with this label after the marks of its range.
+    pub fn with_label(self, label: &'a str) -> Diagnostic<'a>
+        ensures { message_of result ≡ record (message_of self.entry) { label = label.now } }
+    {
+        Diagnostic {
+            level: self.level,
+            name: self.name,
+            source: self.source,
+            start: self.start,
+            end: self.end,
+            first_line: self.first_line,
+            first_column: self.first_column,
+            message: self.message,
+            width: self.width,
+            label,
+            labels: self.labels,
+            remarks: self.remarks,
+        }
+    }
+
+    /// Returns the diagnostic with these labels of further ranges of its text.
+    ///
+    /// Those on earlier lines are shown above the range, the others below its first line. If the
+    /// labels are in the order of the text, all lines are.
+    pub fn with_labels(self, labels: &'a [Label<'a>]) -> Diagnostic<'a>
+        ensures { message_of result
+            ≡ record (message_of self.entry) { labels = map label_of labels.now } }
+    {
+        Diagnostic {
+            level: self.level,
+            name: self.name,
+            source: self.source,
+            start: self.start,
+            end: self.end,
+            first_line: self.first_line,
+            first_column: self.first_column,
+            message: self.message,
+            width: self.width,
+            label: self.label,
+            labels,
+            remarks: self.remarks,
+        }
+    }
+
     /// Returns the diagnostic with these remarks below its lines.
     pub fn with_remarks(self, remarks: &'a [Remark<'a>]) -> Diagnostic<'a>
         ensures { message_of result
@@ -119,6 +167,8 @@ impl<'a> Diagnostic<'a> {
             first_column: self.first_column,
             message: self.message,
             width: self.width,
+            label: self.label,
+            labels: self.labels,
             remarks,
         }
     }
@@ -144,40 +194,23 @@ impl fmt::Display for Diagnostic<'_> {
     ghost output = { λ d. Some (encode_utf8_all (diagnostic_text (message_of d))) };
 
     fn fmt<W: fmt::Write>(&self, f: &mut fmt::Formatter<W>) -> fmt::Result {
-        let level = self.level.word();
-        let message = Shown(self.message);
-        let name = Shown(self.name);
-        let start = place_on_line(self.source, self.start);
-        let end = place_on_line(self.source, self.end);
-        let LineColumn { line, column } = place_in(
-            self.source,
-            start,
-            self.first_line,
-            self.first_column,
-        );
-        let last = line + line_feeds(&self.source[start..end]);
-        let digits = digit_count(last);
-        let margin = Blanks(digits);
-        write!(f, "{level}: {message}\n")?;
-        write!(f, "{margin}--> {name}:{line}:{column}\n")?;
-        let first = Row {
-            margin: digits,
-            number: line,
-            line: fitted(start_line(self.source, start, end), self.width),
-        };
-        let remarks = Remarks {
-            margin: digits,
-            remarks: self.remarks,
-        };
-        if line < last {
-            let gap = gap(line, last);
-            let end = Row {
-                margin: digits,
-                number: last,
-                line: fitted(end_line(self.source, start, end), self.width),
-            };
-            return write!(f, "{margin} |\n{first}{gap}{end}{remarks}");
-        }
-        write!(f, "{margin} |\n{first}{remarks}")
+        write_message(f, self, false)
+    }
+}
+
+/// A message in the colors of rustc, for a terminal. `Display` writes it.
+#[derive(Clone, Copy, Debug)]
+pub struct Colored<'a>(pub Diagnostic<'a>);
+
+impl fmt::Display for Colored<'_> {
+    ghost use Rattle.std.specs.Prelude.{Some};
+    ghost use Rattle.std.specs.Str.{encode_utf8_all};
+    ghost use Rattle.litrs_diagnostic.specs.Diagnostic.{colored_text};
+    ghost use Rattle.litrs_diagnostic.specs.Rows.{message_of};
+
+    ghost output = { λ d. Some (encode_utf8_all (colored_text (message_of d.0))) };
+
+    fn fmt<W: fmt::Write>(&self, f: &mut fmt::Formatter<W>) -> fmt::Result {
+        write_message(f, &self.0, true)
     }
 }

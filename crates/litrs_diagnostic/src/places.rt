@@ -51,7 +51,7 @@ pub(crate) fn place_in(source: &str, at: usize, first_line: u32, first_column: u
 }
 
 /// Returns the number of LFs in `text`.
-pub(crate) fn line_feeds(text: &str) -> usize
+fn line_feeds(text: &str) -> usize
     ensures value { result ≡ count_by is_line_feed (chars text.now) }
     ensures bound { result ≤ length text.now }
 {

@@ -1,9 +1,11 @@
 -- Each turn adds the start of the next line.
-use Rattle.std.proofs.Common.{ℕ, List, [], ◌∷◌, ◌+◌, ◌-◌, ◌<◌, ◌≤◌, length, drop, subst, sym, arith, length-append}
+use Rattle.std.proofs.Common.{◌≡◌, ℕ, List, [], ◌∷◌, ◌+◌, ◌-◌, ◌<◌, ◌≤◌, length, drop, count_by, subst, sym, arith, length-append}
+use Rattle.std.specs.Str.{chars}
+use Rattle.litrs_diagnostic.specs.Position.{is_line_feed}
 use Rattle.std.proofs.lemmas.List.{get_or_default}
 use Rattle.std.proofs.lemmas.List.Sorted.{IsNonDecreasingBy-short, IsNonDecreasingBy-push}
 use Rattle.litrs_diagnostic.specs.Lines.{IsLineStart, IsLineLen}
-use Rattle.litrs_diagnostic.proofs.LineStarts.{first_start, next_start, more_starts, no_later}
+use Rattle.litrs_diagnostic.proofs.LineStarts.{each_start, first_start, next_start, more_starts, no_later}
 use Rattle.litrs_diagnostic.proofs.line_starts.Lines.new.Goals as goal
 
 pub loop-len-init : goal.loop-len-init
@@ -23,7 +25,7 @@ loop-len-preserved c =
     let now = c.loop-len.invariant in
     let line : IsLineLen (drop c.loop-len.start source) c.in-Some.len =
     subst (λ (bs : List ℕ). IsLineLen bs c.in-Some.len) c.range_from.ensures.value
-    c.in-Some.ensures in
+    c.in-Some.ensures.some in
     let next = next_start source (length starts) c.loop-len.start c.in-Some.len c.utf8.source
     now.here line in
     let order : c.loop-len.start ≤ start = omega arith in
@@ -38,3 +40,16 @@ loop-len-preserved c =
           omega (arith, last, same, order));
       last = no_later starts c.loop-len.start start order now.last;
     })
+
+pub invariant_of-result : goal.invariant_of-result
+invariant_of-result c =
+    let source = c.args.source.now in
+    let now = c.loop-len.invariant in
+    let none : count_by is_line_feed (chars (drop c.loop-len.start source)) ≡ 0 =
+    subst (λ (bs : List ℕ). count_by is_line_feed (chars bs) ≡ 0) c.range_from.ensures.value
+    c.in_default.ensures.none in (
+      c.utf8.source,
+      now.starts,
+      now.sorted,
+      each_start source (length c.loop-len.starts.items) c.loop-len.start c.utf8.source now.here none,
+    )

@@ -13,5 +13,7 @@ returns-clause-writes g c = λ plain ok.
     let some : 0 < length it.remarks.now = grind (arith, common_steps) in
     let one = c.write.ensures.writes plain (search rules) in
     let two = c.write_remarks.ensures one.plain ok in
-    has_written_of_eq _ _ _ _ _ (all_remarks it.margin it.remarks.now some)
+    has_written_of_eq _ _ _ _ _ (all_remarks it.frame.is_colored it.frame.margin it.remarks.now
+    c.opening-blue.result.now c.closing-plain.result.now some c.opening-blue.ensures
+    c.closing-plain.ensures)
     (has_written_append _ _ _ _ _ _ one two)
