@@ -13,6 +13,23 @@ const ROUNDS: usize = 400;
 /// The rounds over all sources.
 const WALKS: usize = 10;
 
+/// The tokens of a kind under which they are timed once more, repeated until there are `PLACES`.
+const FEW: usize = 100;
+
+/// The kinds of literals that are timed by litrs_prefix too.
+const LITERALS: &[&str] = &[
+    "bool",
+    "byte",
+    "byte string",
+    "char",
+    "float",
+    "integer, decimal",
+    "integer, other base",
+    "raw string",
+    "string",
+    "malformed literal",
+];
+
 /// The kinds that rustc_lexer has too, by their numbers in litrs_bench.rt.in.
 const WHITESPACE: u64 = 1;
 const LINE_COMMENT: u64 = 2;
@@ -219,5 +236,17 @@ pub fn main(folder: &str) {
     row("all, in turn", count, bytes, count, time(&texts, WALKS, [ours::tokens, theirs::tokens]));
     for (name, kind) in &found.kinds {
         row(name, kind.count, kind.bytes, kind.rests.len(), time(&kind.rests, ROUNDS, [ours::token, theirs::token]));
+        if kind.count < FEW {
+            let more: Vec<&str> = kind.rests.iter().cycle().take(PLACES).copied().collect();
+            row("  these, repeated", PLACES, PLACES * kind.bytes / kind.count, PLACES, time(&more, ROUNDS, [ours::token, theirs::token]));
+        }
+    }
+    for (name, call) in [("prefix_len", ours::prefix_len as Call), ("parse_prefix", ours::prefix)] {
+        println!("\n{name:<22}{:>10}{:>8}{:>10}{:>13}{:>7}", "literals", "bytes", "ours", "rustc_lexer", "ratio");
+        for literal in LITERALS {
+            if let Some(kind) = found.kinds.get(literal) {
+                row(literal, kind.count, kind.bytes, kind.rests.len(), time(&kind.rests, ROUNDS, [call, theirs::token]));
+            }
+        }
     }
 }
