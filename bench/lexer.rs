@@ -13,6 +13,23 @@ const ROUNDS: usize = 400;
 /// The rounds over all sources.
 const WALKS: usize = 10;
 
+/// A kind with fewer tokens is timed once more, with these repeated until there are `PLACES`.
+const FEW: usize = 100;
+
+/// The kinds at whose places the calls of litrs_prefix are timed too.
+const LITERALS: &[&str] = &[
+    "bool",
+    "byte",
+    "byte string",
+    "char",
+    "float",
+    "integer, decimal",
+    "integer, other base",
+    "raw string",
+    "string",
+    "malformed literal",
+];
+
 /// The kinds that rustc_lexer has too, by their numbers in litrs_bench.rt.in.
 const WHITESPACE: u64 = 1;
 const LINE_COMMENT: u64 = 2;
@@ -218,6 +235,21 @@ pub fn main(folder: &str) {
     let texts: Vec<&str> = sources.iter().map(String::as_str).collect();
     row("all, in turn", count, bytes, count, time(&texts, WALKS, [ours::tokens, theirs::tokens]));
     for (name, kind) in &found.kinds {
-        row(name, kind.count, kind.bytes, kind.rests.len(), time(&kind.rests, ROUNDS, [ours::token, theirs::token]));
+        let calls = [ours::token as Call, theirs::token];
+        row(name, kind.count, kind.bytes, kind.rests.len(), time(&kind.rests, ROUNDS, calls));
+        if kind.count < FEW {
+            let more: Vec<&str> = kind.rests.iter().cycle().take(PLACES).copied().collect();
+            let bytes = PLACES * kind.bytes / kind.count;
+            row("  these, repeated", PLACES, bytes, PLACES, time(&more, ROUNDS, calls));
+        }
+    }
+    for (name, call) in [("prefix_len", ours::prefix_len as Call), ("parse_prefix", ours::prefix)] {
+        println!("\n{name:<22}{:>10}{:>8}{:>10}{:>13}{:>7}", "literals", "bytes", "ours", "rustc_lexer", "ratio");
+        for literal in LITERALS {
+            if let Some(kind) = found.kinds.get(literal) {
+                let times = time(&kind.rests, ROUNDS, [call, theirs::token]);
+                row(literal, kind.count, kind.bytes, kind.rests.len(), times);
+            }
+        }
     }
 }

@@ -9,7 +9,7 @@ ghost use Rattle.litrs_lexer.specs.Cut.{is_of_comment};
 ghost use Rattle.litrs_lexer.specs.Whitespace.{after_while};
 
 use crate::kind::{DocStyle, TokenKind};
-use litrs_prefix::split_first_char;
+use litrs_base::split_first_char;
 use memchr::{memchr, memchr2};
 
 /// Returns the part of `text` from its first line feed on.

@@ -23,7 +23,8 @@ use crate::name::{
     starts_with_hash, starts_with_name, starts_with_quote_or_hash, starts_with_single_quote,
 };
 use crate::whitespace::{after_white_space, is_white_space};
-use litrs_prefix::{after_name, begins_name, split_first_char};
+use litrs_base::split_first_char;
+use litrs_prefix::{after_name, begins_name};
 
 /// Returns the kind of the token at the front of `text` and the part of `text` after the token, or
 /// `None` if `text` is empty.

@@ -14,8 +14,9 @@ ghost use Rattle.litrs_lexer.specs.Lifetime.{is_hash};
 ghost use Rattle.litrs_lexer.specs.Literal.{opens_quoted};
 
 use crate::ascii::{Class, class_len, starts_beyond_ascii};
+use litrs_base::split_first_char;
 use litrs_lex::cut_bool;
-use litrs_prefix::{after_name, begins_name, opens, split_first_char};
+use litrs_prefix::{after_name, begins_name, opens};
 
 /// Returns the part of `text` after the characters at its front that can continue a name.
 #[inline(always)]

@@ -11,7 +11,7 @@ ghost use Rattle.litrs_lexer.specs.Token.{is_trivia};
 use crate::comment::{after_line, doc_style};
 use crate::cut::cut_token;
 use crate::kind::TokenKind;
-use litrs_prefix::split_first_char;
+use litrs_base::split_first_char;
 
 /// Returns the text of a file without a byte order mark and a shebang, such as
 /// `#!/usr/bin/env rustx`, at its front: the text that [`tokenize`](crate::tokenize) cuts into

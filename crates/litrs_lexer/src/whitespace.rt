@@ -7,7 +7,7 @@ ghost use Rattle.litrs_lexer.specs.Cut.{is_ascii_white_space, is_wide};
 ghost use Rattle.litrs_lexer.specs.Whitespace.{is_white_space, after_white_space};
 
 use crate::ascii::{Class, class_len, is_of_class, starts_beyond_ascii};
-use litrs_prefix::split_first_char;
+use litrs_base::split_first_char;
 
 /// Returns `true` if the character has the Unicode property Pattern_White_Space.
 #[inline(always)]

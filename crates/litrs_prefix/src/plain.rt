@@ -1,5 +1,5 @@
 //! Literals that are read once: those without a suffix, before an ASCII character that no name has.
-//! Most literals of a source are such.
+//! Most literals of a source are such. Strings that are not closed are read once too.
 ghost use Rattle.std.specs.Prelude.{◌≡◌, ◌==◌, ◌&&◌, ◌||◌, not, ◌++◌, ⊤, IsTrue, IsFalse, IfOk, IfErr, IfSome, IfNone};
 ghost use Rattle.std.specs.Char.{is_ascii, is_ascii_alphanumeric, is_ascii_digit};
 ghost use Rattle.std.specs.Str.{chars};
@@ -143,8 +143,8 @@ pub fn raw_extent<'a>(text: &'a str, body: &'a str, kind: StringKind) -> Result<
     }
 }
 
-/// Like [`raw_extent`], for a body of `hashes` hashes and `"`, which ends at `start`. A string that
-/// is not closed extends to the end of the text.
+/// Like [`raw_extent`], for a body that starts with `hashes` hashes and `"`, which end at `start`. A
+/// string that is not closed extends to the end of the text.
 fn raw_body_extent<'a>(
     text: &'a str,
     body: &'a str,
