@@ -90,8 +90,8 @@ pub fn shown(alloc: Global, diagnostic: &Diagnostic) -> Result<String, AllocErro
 pub fn shown_in_color(alloc: Global, diagnostic: &Diagnostic) -> Result<String, AllocError>
     ensures text { IfOk result (λ written.
         chars (string_bytes written) ≡ colored_text (message_of diagnostic.now)) }
-    ensures without_codes { IfOk result (λ written.
-        without_codes (chars (string_bytes written)) ≡ diagnostic_text (message_of diagnostic.now)) }
+    ensures without_codes { IfOk result (λ written. without_codes (chars (string_bytes written))
+        ≡ diagnostic_text (message_of diagnostic.now)) }
 {
     let colored = Colored(*diagnostic);
     format!(in alloc; "{colored}")

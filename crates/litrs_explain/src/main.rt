@@ -14,7 +14,6 @@
 #![tactic(auto)]
 
 mod arguments;
-mod color;
 mod error;
 mod explainer;
 mod find;

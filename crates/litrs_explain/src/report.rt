@@ -4,14 +4,13 @@ ghost use Rattle.std.specs.Str.{IsCharBoundary};
 ghost use Rattle.litrs.specs.LiteralDerivation.{derivation};
 ghost use Rattle.litrs_explain.specs.Report.{place_text, IsLiteralReport};
 
-use crate::color::{colored_lines, colored_place};
 use crate::error::Error;
 use crate::json::{literal_object, problem_object};
 use crate::options::Options;
 use crate::output::Output;
 use crate::place::{Place, Span};
 use litrs::{Buffer, Literal, ParseErrorKind};
-use litrs_diagnostic::Diagnostic;
+use litrs_diagnostic::{Color, Diagnostic, Painted, shown, shown_in_color};
 use litrs_explanation::explanation;
 use std::alloc::{AllocError, Global};
 
@@ -129,7 +128,11 @@ impl<'a> Reports<'a> {
     ) -> Result<String, AllocError> {
         let mut place = place_text(self.alloc, self.name, place)?;
         if self.options.color {
-            place = colored_place(self.alloc, place.as_str())?;
+            let painted = Painted {
+                color: Color::Green,
+                text: place.as_str(),
+            };
+            place = format!(in self.alloc; "{painted}")?;
         }
         literal_report(self.alloc, place.as_str(), literal)
     }
@@ -140,10 +143,11 @@ impl<'a> Reports<'a> {
         let diagnostic = Diagnostic::new(self.name, problem.source, start..end, problem.message())
             .with_first(narrowed(problem.place.line), narrowed(problem.place.column))
             .with_width(WIDTH);
-        let mut lines = format!(in self.alloc; "{diagnostic}")?;
-        if self.options.color {
-            lines = colored_lines(self.alloc, lines.as_str())?;
-        }
+        let mut lines = if self.options.color {
+            shown_in_color(self.alloc, &diagnostic)?
+        } else {
+            shown(self.alloc, &diagnostic)?
+        };
         lines.push_str(note(problem.is_incomplete))?;
         if problem.kind == Some(ParseErrorKind::InvalidLiteral) {
             lines.push_str(sign_note(self.alloc, &problem.source[start..end]))?;

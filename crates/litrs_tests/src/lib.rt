@@ -14,6 +14,8 @@ mod containers;
 #[cfg(test)]
 mod errors;
 #[cfg(test)]
+mod labels;
+#[cfg(test)]
 mod lines;
 #[cfg(test)]
 mod mismatches;
