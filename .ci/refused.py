@@ -31,8 +31,8 @@ hold.
 Fails where a copy does anything else, where a call that is not listed below was refused, where one
 that is listed never was, where `feed` allocates more than once for a line that is no literal, or at
 all for a line that fits the memory of a collector that was cleared, where a call of litrs_build
-allocates more than once for a text and once for a value, and where one of litrs_value does for a
-parse and for a value.
+allocates more than once for a text and once for a value, where one of litrs_value does for a
+parse and for a value, and where `parse_until` does for a value.
 """
 import argparse
 import collections
@@ -53,6 +53,7 @@ HOLDS = b"1 rows hold\n"
 # As in crates/litrs_vectors/src/unallocated.rt.
 MARK = 9973
 FEED = "Collector::feed over &str"
+UNTIL = "litrs_prefix::parse_until over &str"
 BUILD = re.compile(r"litrs_build::(\w+) over (?:&str|String)")
 VALUED = "litrs_value::"
 # The calls of litrs_build that make a literal whose value may be allocated.
@@ -119,6 +120,7 @@ def calls():
     yield "litrs_lex::unescape_string_with over &str"
     yield "litrs_prefix::parse_prefix over &str"
     yield "litrs_prefix::parse_prefix_at over &str"
+    yield UNTIL
     for call in ["read", "read_prefix", "read_str", "float", "integer_float"]:
         yield f"litrs_value::{call} over &str"
     for call in ["char", "byte", "string", "byte_string", "c_string", "integer", "grouped_integer"]:
@@ -307,8 +309,9 @@ def doublings(room, length):
 def most_asked(call, fields):
     """How often a call may allocate for a row of these fields: one of litrs_build for the text of a
     literal and for its value, `rewritten` also while the text becomes longer than that of the literal,
-    one of litrs_value for the literal and for a value that owns memory, and a collector that is fed the
-    lines of a text once a line where each is answered by `More` or `Refused`."""
+    one of litrs_value for the literal and for a value that owns memory, `parse_until` for a value, and
+    a collector that is fed the lines of a text once a line where each is answered by `More` or
+    `Refused`."""
     if built := BUILD.fullmatch(call):
         if built[1] == "rewritten" and fields[0] == "rewritten":
             return 1 + doublings(byte_len(fields[1]), byte_len(fields[3]))
@@ -317,6 +320,8 @@ def most_asked(call, fields):
             kind, body = fields[2], fields[4]
             has_value = kind == "cstring" or (kind in ("string", "bytestring") and body != "raw")
         return 1 + has_value
+    if call == UNTIL:
+        return 1
     if call.startswith(VALUED):
         return 1 + (fields[2] in ("String", "Vec<u8>", "CString"))
     if call == FEED and fields[2] == "refused" and "%(" not in fields[1]:

@@ -1,4 +1,4 @@
--- What steps leave, one after the other.
+-- The state that steps leave, one after the other.
 use Rattle.std.proofs.Common.{◌≡◌, ◌∙◌, ℕ, Bool, List, [], ◌++◌, Option, Result, Ok, Err, take, drop, refl, sym, ap, subst, append-nil}
 use Rattle.std.specs.Prelude.{string_bytes}
 use Rattle.litrs_lines.specs.declared.RunError.{RunError}

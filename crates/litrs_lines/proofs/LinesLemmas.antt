@@ -91,7 +91,7 @@ open_line-line_feed front after =
     ∙ last_part-append f.first f.after b.first b.after
     ∙ ap open_part (sym b.is)
 
--- ---- a line that goes on
+-- ---- a line that continues
 
 pub ended_parts_of-none : (line : List ℕ) → HasNoLineFeed line → ended_parts_of line ≡ []
 unfolding ended_parts_of
@@ -205,7 +205,7 @@ ends_line line rest end held at =
           ∙ ap (λ ps. ps ++ ended_parts_of (drop (end + 1) rest)) (slice_split_none is_line_feed (line ++ take end rest) none));
     }
 
--- without one the line goes on
+-- without an LF the line continues
 pub record GoesOn (line rest : List ℕ) : Type 0 where
   pub leaves : open_line (line ++ rest) ≡ line ++ rest
   pub lines : ended_lines (line ++ rest) ≡ []

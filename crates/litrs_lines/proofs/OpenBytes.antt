@@ -1,4 +1,4 @@
--- What is known of the bytes of a text that begins a string: it stays known with more after them, and goes on over a line.
+-- The string that a text begins, by its bytes: it stays open with more bytes after them, and over a line.
 use Rattle.std.proofs.Common.{◌≡◌, ◌∙◌, inl, inr, ℕ, zero, suc, ◌+◌, ◌≤◌, ◌<◌, Bool, true, false, ltb, List, [], ◌∷◌, ◌++◌, length, take, drop, Option, Some, None, refl, sym, ap, subst, append_assoc, append-nil, arith}
 use Rattle.std.specs.Prelude.{◌==◌, if◌then◌else◌}
 use Rattle.std.specs.List.{list_all, prefix_len}
@@ -127,7 +127,7 @@ line_boundary bytes n is =
     let size : length (bytes ++ 10 ∷ []) ≡ n + 1 = omega (arith, is, length-append bytes (10 ∷ [])) in
     subst (λ (k : ℕ). IsCharBoundary (bytes ++ 10 ∷ []) k) size (IsCharBoundary-end (bytes ++ 10 ∷ []))
 
--- What the switches of the code are, and what it sees of a text
+-- The switches of the code, and the part of a text that it reads
 
 pub stop_by : (kind : StringKind) (w : Switches) (n place end : ℕ) (bytes seen : List ℕ) → seen ≡ bytes → w ≡ switches_of kind →
     IsStop w.unicode w.allow_nul n place seen end → IsStop (has_unicode kind) (allows_nul kind) n place bytes end
@@ -177,7 +177,7 @@ quoted_unfinished kind place bytes u s shape =
 pub quoted_next : (kind : StringKind) (place : ℕ) (bytes : List ℕ) → IsUtf8 bytes → IsQuotedTo kind place bytes → IsQuotedTo kind place (bytes ++ 10 ∷ [])
 quoted_next kind place bytes u s = quoted_stays kind place bytes (10 ∷ []) u line_utf8 s
 
--- a continuation that ends a line goes on, be it a backslash alone
+-- a continuation that ends a line continues in the next, even if it is a backslash alone
 continuation_next : (kind : StringKind) (place n : ℕ) (bytes more blanks : List ℕ) → IsUtf8 bytes → n ≡ length bytes → IsQuotedTo kind place bytes → chars (drop place bytes) ≡ 92 ∷ more →
     more ++ 10 ∷ [] ≡ 10 ∷ blanks → list_all is_blank blanks ≡ true → IsContinuedTo kind (n + 1) (bytes ++ 10 ∷ [])
 continuation_next kind place n bytes more blanks u size s rest line all =
@@ -198,7 +198,7 @@ continuation_next kind place n bytes more blanks u size s rest line all =
 pub past_end : (n : ℕ) (bytes : List ℕ) → n ≡ length bytes → IsInLastLine (n + 1) bytes
 past_end n bytes size = at_drop_all (λ (l : List ℕ). list_all is_other (chars l)) bytes (n + 1) (omega (arith, size)) ∙ ap (list_all is_other) chars-nil
 
--- What is known after the text, by what ends its items
+-- The string that is open after the text, by what ends its items
 
 -- the text ends between two items, or with an escape
 pub items_after : (kind : StringKind) (place : ℕ) (bytes : List ℕ) → IsUtf8 bytes → IsQuotedTo kind place bytes → chars (drop place bytes) ≡ [] →
@@ -330,7 +330,7 @@ record IsRawRest (kind : StringKind) (n : ℕ) (bytes : List ℕ) (front : List 
   passed : occurs (raw_closing n) front ≡ false
   unclosed : (more : List ℕ) → occurs (raw_closing n) more ≡ false → occurs (raw_closing n) (body ++ more) ≡ false
 
--- no closing stands in what a search has passed up to the end
+-- a text that a search has passed to its end contains no closing
 unclosed_front : (n : ℕ) (front : List ℕ) → NoClosingIn n front [] → occurs (raw_closing n) front ≡ false
 unclosed_front n front none = ap (occurs (raw_closing n)) (sym (append-nil front)) ∙ (raw_scans_go_on n front [] none).1
 
@@ -371,7 +371,7 @@ raw_next kind n place end bytes u s stop whole =
           (r.unclosed (front ++ 10 ∷ more) (none_over_line n front more r.passed none));
     }
 
--- where the search stops in the text, the body is closed or has what may not stand in it
+-- if the search stops in the text, the body is closed there or has a character that is not allowed
 stop_row : (u a : Bool) (n start end : ℕ) (bytes : List ℕ) → IsUtf8 (drop start bytes) → IsStop u a n start bytes end →
     (first_passes is_quote (drop end bytes) ≡ true → begins_with (raw_closing n) (drop end bytes) ≡ true) → (end ≡ length bytes → ⊥) →
     raw_body_refusal u a n start (chars (drop start bytes)) ≡ Some (without_span UnterminatedRawString) → ⊥

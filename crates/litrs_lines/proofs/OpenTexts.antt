@@ -47,7 +47,7 @@ use Rattle.litrs_lex.proofs.QuotedScan.{is_item_list-append}
 abbrev pub IsOpenText : List ℕ → Type 0
 IsOpenText t = HasNoDerivation (IsLiteral t) × Begins literal_parse (t ++ 10 ∷ [])
 
--- What a string of a kind is refused for, and begins, a literal is and does.
+-- A text has the refusal of its kind of string as a literal, and begins a literal if it begins a string.
 
 begins_literal : (kind : StringKind) (t : List ℕ) → BeginsBy (IsString kind) t → Begins literal_parse t
 begins_literal string_kind t begins = (begins.0, a_string begins.1, begins.2, begins.3)
@@ -85,7 +85,7 @@ dispatch_raw c_string_kind x = refl
 
 -- Quoted strings
 
--- what may stand at the end of an open text after its items
+-- the texts that may follow the items of an open text
 abbrev pub IsOpenEnd : Switches → List ℕ → Type 0
 IsOpenEnd w rest = IsOpenRest rest ⊎ ((rest ≡ 92 ∷ []) ⊎ ((e : Escape) × (rest ≡ escape_text e) × IsEscape w e))
 
@@ -100,7 +100,7 @@ pub more_after : (front text rest more t : List ℕ) → front ++ (text ++ rest)
 more_after front text rest more t spells =
     ap (λ l. front ++ l) (sym (append_assoc text rest more)) ∙ sym (append_assoc front (text ++ rest) more) ∙ ap (λ l. l ++ more) spells
 
--- the text and an LF, by its items and what stands open after them
+-- the text and an LF, by its items and the open rest after them
 record IsOpenLine (kind : StringKind) (t : List ℕ) : Type 0 where
   items : List Item
   rest : List ℕ
@@ -108,7 +108,7 @@ record IsOpenLine (kind : StringKind) (t : List ℕ) : Type 0 where
   taken : is_item_list (switches_of kind) rest items ≡ true
   shape : IsOpenRest rest
 
--- no suffix goes on over a line
+-- no suffix continues over a line
 not_suffix : (s : List ℕ) → is_suffix (s ++ 10 ∷ []) ≡ false
 not_suffix s = by (is_suffix (s ++ 10 ∷ [])) refl
   where
@@ -122,7 +122,7 @@ quote_refused string_kind t other = if_true (not (is_suffix t)) _ _ (not_from_fa
 quote_refused byte_string_kind t other = if_true (not (is_suffix t)) _ _ (not_from_false _ other)
 quote_refused c_string_kind t other = if_true (not (is_suffix t)) _ _ (not_from_false _ other)
 
--- a literal with an LF after it does not stand open
+-- a literal with an LF after it is not open
 open_is_none : (kind : StringKind) (t : List ℕ) (q : QuotedParts) → IsQuotedLiteral kind t q → IsOpenLine kind t → ⊥
 open_is_none kind t q is line =
     let w = switches_of kind in
@@ -201,7 +201,7 @@ line_of kind t items rest spells taken (inr (inr (e, is, grammar))) =
       shape = inl refl;
     }
 
--- a text that begins with the front of the kind, and with an LF after it stands open, is no literal
+-- a text that begins with the front of the kind, and is open with an LF after it, is no literal
 no_quoted : (kind : StringKind) (t x : List ℕ) → quoted_front kind ++ x ≡ t → IsOpenLine kind t → HasNoDerivation (IsLiteral t)
 no_quoted kind t x spells line = elim (quoted_texts_are_decided (quoted_front kind) (switches_of kind) x) [
   | inl q ↦ absurd (open_is_none kind t q.0 (subst (λ (l : List ℕ). IsQuotedLiteral kind l q.0) spells q.1) line)
@@ -239,7 +239,7 @@ quoted_is_shut kind t items rest spells taken (e, told, shut) begins =
     let table : IsRefusal literal_parse line r = string_refusal kind quoted_start line r (ap dispatch (sym whole) ∙ dispatch_quoted kind x) (ap (string_start kind) (sym whole) ∙ start_quoted kind x) own in
     both_ways (is_open e.kind) shut ((line_ends_are_decided literal_parse t r table).1 begins)
 
--- no body goes on after its closing quote
+-- no body continues after its closing quote
 pub quote_is_shut : (kind : StringKind) (rest : List ℕ) → first_passes (λ c. c == 34) rest ≡ true → IsShut (switches_of kind) rest
 quote_is_shut kind [] h = absurd (false≢true h)
 quote_is_shut kind (c ∷ s) h =
@@ -359,7 +359,7 @@ by_parts kind (raw_parts d) t closing is lit =
       },
     )
 
--- What closes a text that ends with LF makes it a string, of which the text has the opening.
+-- The closing of a text that ends with LF makes it a string, of which the text has the opening.
 string_begins : (t : List ℕ) → Begins literal_parse (t ++ 10 ∷ []) → (kind : StringKind) × BeginsString kind t
 string_begins t begins = elim (texts_are_decided literal_parse (t ++ 10 ∷ [])) [
   | inl d ↦ absurd (no_literal_ends_with_line_feed t d.0 d.1)
@@ -517,7 +517,7 @@ opening_is_shut kind x t e spells told shut begins =
     let same : without_span UnterminatedRawString ≡ e = cc in
     both_ways (is_open e.kind) shut (ap (λ k. is_open k.kind) (sym same))
 
--- and by a body of which a part is closed, or has what may not stand in it
+-- and by a body that is closed before its end, or has a character that is not allowed
 pub raw_is_shut : (kind : StringKind) (n start : ℕ) (front rest t : List ℕ) → raw_front kind ++ (hashes n ++ 34 ∷ (front ++ rest)) ≡ t →
     (raw_body_refusal (has_unicode kind) (allows_nul kind) n start rest ≡ Some (without_span UnterminatedRawString) → ⊥) → Begins literal_parse (t ++ 10 ∷ []) → ⊥
 raw_is_shut kind n start front rest t spells closed begins =

@@ -1,4 +1,4 @@
--- Lines and the reports on them, by computation. What a number is printed as is left as it is.
+-- Lines and the reports on them, by computation. The printed digits of a number are not computed.
 use Rattle.std.specs.Prelude.{◌≡◌, ◌++◌, true, false, [], ◌∷◌, codes, refl}
 use Rattle.std.proofs.Common.{inl, inr}
 use Rattle.std.specs.Fmt.{decimal}

@@ -28,7 +28,7 @@ sends_more a b c p q r x y one two = record {
 pub writes_nothing : (old : Option (List ℕ)) (whole : List ℕ) → AppendsBeginning old old whole
 writes_nothing old whole = record { written = []; appends = Appends-nil old; begins = refl }
 
--- What was written before a failure, and then a prefix of the rest, is a prefix of the whole.
+-- The bytes written before a failure, and then a prefix of the rest, are a prefix of the whole.
 pub stops_later : (a b c : Option (List ℕ)) (p q x y z whole : List ℕ) → Sends a p b q x →
     AppendsBeginning b c (q ++ y) → whole ≡ p ++ (x ++ (y ++ z)) → AppendsBeginning a c whole
 stops_later a b c p q x y z whole one part is =

@@ -116,7 +116,7 @@ pub result_is_held : {E : Type 0} (t old new : List ℕ) (r : Result Step E) →
 result_is_held t old new (Ok step) held fed same = step_is_held t new step fed.is fed.after
 result_is_held t old new (Err e) held fed same = subst IsHeld (sym same) held
 
--- what is held after a line is added if a literal goes on after it
+-- the text that is held after a line, which is added if a literal continues after it
 pub pushed_is_held : {E : Type 0} (old line new : List ℕ) (r : Result Bool E) → IsHeld old → IfOk r (Pushes old line new) → OnErr r (new ≡ old) → IsHeld new
 pushed_is_held old line new (Ok true) held pushed err = line_is_held (old ++ line) new (pushed.more refl).1 (pushed.more refl).0.0
 pushed_is_held old line new (Ok false) held pushed err = subst IsHeld (sym (pushed.other refl).1) held

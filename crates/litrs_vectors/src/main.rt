@@ -19,6 +19,7 @@ use trial::Trial;
 mod allocating_calls;
 mod answers;
 mod builds;
+mod feeds;
 mod field_value;
 mod fronts;
 mod literals;
@@ -32,6 +33,7 @@ mod rows;
 mod tokens;
 mod trial;
 mod unallocated;
+mod until;
 mod values;
 
 /// The line after which no prefixes of texts are tried.
@@ -88,6 +90,8 @@ fn try_row(trial: &mut Trial, row: &Row) {
     match row.names {
         "parse_prefix" => fronts::try_front(trial, row),
         "prefix_may_change" => fronts::try_may_change(trial, row),
+        "parse_until" => until::try_until(trial, row),
+        "feed" => feeds::try_feeds(trial, row),
         "goes_on" => prefixes::try_goes_on(trial, row),
         "value" => named::try_value(trial, row),
         "Ident::new" => named::try_ident(trial, row),

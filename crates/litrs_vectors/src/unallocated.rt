@@ -2,7 +2,7 @@
 use crate::literals::is_clone_refused;
 use crate::parses::{PARSES, Parse, discard, fails, is_allocated, parse_by, parsed};
 use crate::trial::Trial;
-use crate::{allocating_calls, fronts, tokens};
+use crate::{allocating_calls, fronts, tokens, until};
 use litrs::{Literal, ParseError, ParseErrorKind, goes_on};
 use litrs_build::BuildError;
 use litrs_lines::{MemInput, MemOutput, Output, run};
@@ -75,7 +75,7 @@ fn try_sort(trial: &mut Trial, sort: Sort, text: &str) {
     }
 }
 
-/// Tries all nine parses, and the literal at the front.
+/// Tries all nine parses, the literal at the front, and the whole text before no delimiter.
 fn try_parses(trial: &mut Trial, text: &str) {
     for parse in PARSES {
         trial.at = (parse.name(), "no memory");
@@ -84,6 +84,9 @@ fn try_parses(trial: &mut Trial, text: &str) {
     }
     trial.at = ("parse_prefix", "no memory");
     let refused = fronts::is_unneeded_refused(trial.alloc, text);
+    trial.check(!refused, "is refused memory that it does not need");
+    trial.at = ("parse_until", "no memory");
+    let refused = until::is_unneeded_refused(trial.alloc, text);
     trial.check(!refused, "is refused memory that it does not need");
 }
 

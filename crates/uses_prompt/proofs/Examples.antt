@@ -1,4 +1,4 @@
--- What is answered to lines.
+-- Answers to lines.
 use Rattle.std.specs.Prelude.{◌≡◌, ℕ, List, [], ◌++◌, codes, refl}
 use Rattle.uses_prompt.specs.Answered.{IsAnswered, Quits}
 use Rattle.std.proofs.Common.{inl, ◌∷◌}

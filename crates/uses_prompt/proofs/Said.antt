@@ -1,4 +1,4 @@
--- What is said of the lines that are read.
+-- The answers to the lines that are read.
 use Rattle.std.proofs.Common.{◌≡◌, ◌≢◌, ℕ, List, [], ◌∷◌, ◌++◌, Bor, sym, ap, subst, ◌∙◌, inl, inr, lit<}
 use Rattle.std.specs.Prelude.{Option, Some, None, MatchOption, unwrap_or, codes}
 use Rattle.std.specs.Str.{IsUtf8, IsAscii}

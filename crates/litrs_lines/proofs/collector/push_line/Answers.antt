@@ -1,4 +1,4 @@
--- What is known of the text stays known with the line after it.
+-- The string that is known to be open stays open with the line after it.
 use Rattle.std.proofs.Common.{◌≡◌, ◌∙◌, ℕ, List, ◌++◌, sym, ap, subst}
 use Rattle.std.specs.Prelude.{string_bytes}
 use Rattle.std.proofs.lemmas.Str.{IsUtf8-string_bytes}

@@ -1,4 +1,4 @@
--- What is held after a step is nothing, or lines.
+-- After a step, nothing is held, or lines.
 use Rattle.std.proofs.Common.{◌++◌}
 use Rattle.std.specs.Prelude.{string_bytes}
 use Rattle.litrs_lines.proofs.StepLemmas.{result_is_held}

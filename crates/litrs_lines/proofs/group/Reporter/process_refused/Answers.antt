@@ -1,4 +1,4 @@
--- What is added, or written before a failure, is the report of the line, unless it is held.
+-- The bytes added, or written before a failure, are the report of the line, unless it is held.
 use Rattle.std.proofs.Common.{[], ◌∷◌, refl, sym, append-nil}
 use Rattle.std.proofs.lemmas.Result.{err_from_is_err_and}
 use Rattle.litrs_lines.proofs.Leaving.{leaves_memory, leaves_added}
