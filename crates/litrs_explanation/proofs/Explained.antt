@@ -1,5 +1,5 @@
 -- The lines on a literal, put together from those on its parts.
-use Rattle.std.proofs.Common.{◌≡◌, ◌∙◌, ℕ, Bool, true, false, cond, List, [], ◌∷◌, ◌++◌, Option, Some, sym, ap, subst}
+use Rattle.std.proofs.Common.{◌≡◌, ◌∙◌, ℕ, Bool, true, false, cond, List, [], ◌∷◌, ◌++◌, Option, Some, sym, ap, subst, append_assoc}
 use Rattle.std.specs.Char.{encode_utf8}
 use Rattle.std.specs.Fmt.{digits, AppendsText, option_append}
 use Rattle.std.specs.Prelude.{codes, decimal, Result, Ok, Err, IfOk, IsTrue, String, string_bytes, is_ok, OnOk}
@@ -14,7 +14,9 @@ use Rattle.litrs_grammar.specs.Float.{FloatParts}
 use Rattle.litrs_grammar.specs.Integer.{IntegerParts, integer_value}
 use Rattle.litrs_grammar.specs.Literal.{Derivation, suffix_of}
 use Rattle.litrs_build.specs.Printable.{is_printable}
-use Rattle.litrs_explanation.specs.Explanation.{kind_name, field, field_of_part, integer_text, names_that_fit, integer_fields, fraction_field, float_fields, escaped_char, escaped, explanation, is_line_feed_or_printable}
+use Rattle.litrs_explanation.specs.Explanation.{kind_name, field, field_of_part, integer_text, names_that_fit, integer_fields, fraction_field, float_fields, escaped_char, escaped, explanation, is_line_feed_or_printable, Shows}
+use Rattle.litrs_explanation.specs.Appended.{Appends}
+use Rattle.litrs_explanation.proofs.Appending.{appended_as}
 use Rattle.litrs_explanation.proofs.Printed.{basic_encoded, number_basic, value_shows}
 
 -- the bytes of a part are those of its characters
@@ -26,29 +28,23 @@ pub value_made : (line raw text : List ℕ) → IsUtf8 raw → chars raw ≡ tex
     line ≡ field (codes "value") raw → line ≡ field (codes "value") (encode_utf8_all text)
 value_made line raw text u is made = made ∙ ap (field (codes "value")) (part_is raw text u is)
 
-pub values_made : {Z : Type 0} (r : Result (String Z) AllocError) (raw text : List ℕ) → IsUtf8 raw → chars raw ≡ text →
-    IfOk r (λ line. string_bytes line ≡ field (codes "value") raw) →
-    IfOk r (λ line. string_bytes line ≡ field (codes "value") (encode_utf8_all text))
-values_made r raw text u is made =
-    IfOk-weaker r _ _ (λ line. value_made (string_bytes line) raw text u is) made
-
 -- and it is printable
-pub values_show : {Z : Type 0} (r : Result (String Z) AllocError) (raw text : List ℕ) → IsUtf8 raw → chars raw ≡ text →
+pub value_appended : {T E : Type 0} (old new : List ℕ) (r : Result T E) (raw text : List ℕ) → IsUtf8 raw → chars raw ≡ text →
     list_all is_line_feed_or_printable text ≡ true →
-    IfOk r (λ line. string_bytes line ≡ field (codes "value") raw) →
-    IfOk r (λ line. IsTrue (list_all is_line_feed_or_printable (chars (string_bytes line))))
-values_show r raw text u is all made =
-    IfOk-weaker r (λ line. string_bytes line ≡ field (codes "value") raw)
-    (λ line. IsTrue (list_all is_line_feed_or_printable (chars (string_bytes line))))
-    (λ line one. ap (λ (t : List ℕ). list_all is_line_feed_or_printable (chars t)) one
-    ∙ (value_shows raw text u is all).clean) made
+    Appends old new r (λ line. line ≡ field (codes "value") raw) →
+    Appends old new r (λ line. (line ≡ field (codes "value") (encode_utf8_all text)) × Shows line)
+value_appended old new r raw text u is all appends =
+    appended_as old new r (λ line. line ≡ field (codes "value") raw)
+    (λ line. (line ≡ field (codes "value") (encode_utf8_all text)) × Shows line)
+    (λ line made. (value_made line raw text u is made, subst Shows (sym made) (value_shows raw text u is all)))
+    appends
 
-pub integer_made : (value digits fits written : List ℕ) (base : ℕ) (d : IntegerParts) → value ≡ integer_text (integer_value d) →
-    base ≡ base_value d.base → digits ≡ encode_utf8_all d.main → fits ≡ names_that_fit (integer_value d) →
-    written ≡ codes "  value " ++ (value ++ (codes "\n  base " ++ (decimal base ++ (codes "\n  digits " ++ (digits ++ (codes "\n  fits" ++ (fits ++ codes "\n"))))))) →
+pub integer_made : (value base digits fits written : List ℕ) (d : IntegerParts) → value ≡ integer_text (integer_value d) →
+    base ≡ decimal (base_value d.base) → digits ≡ encode_utf8_all d.main → fits ≡ names_that_fit (integer_value d) →
+    written ≡ codes "  value " ++ (value ++ (codes "\n  base " ++ (base ++ (codes "\n  digits " ++ (digits ++ (codes "\n  fits" ++ (fits ++ codes "\n"))))))) →
     written ≡ integer_fields d
-integer_made value digits fits written base d v b main f made =
-    made ∙ (λ j. codes "  value " ++ (v j ++ (codes "\n  base " ++ (decimal (b j) ++ (codes "\n  digits " ++ (main j ++ (codes "\n  fits" ++ (f j ++ codes "\n"))))))))
+integer_made value base digits fits written d v b main f made =
+    made ∙ (λ j. codes "  value " ++ (v j ++ (codes "\n  base " ++ (b j ++ (codes "\n  digits " ++ (main j ++ (codes "\n  fits" ++ (f j ++ codes "\n"))))))))
 
 pub fraction_made : (digits line : List ℕ) (fraction : Option (List ℕ)) → IsUtf8 digits → Some (chars digits) ≡ fraction →
     line ≡ field (codes "fraction") digits → line ≡ fraction_field fraction
@@ -61,6 +57,22 @@ pub float_made : (value integer fraction exponent part written : List ℕ) (d : 
 float_made value integer fraction exponent part written d i f e p made =
     let last : exponent ≡ field_of_part (codes "exponent") (encode_utf8_all d.exponent) = e ∙ ap (field_of_part (codes "exponent")) p in
     made ∙ (λ j. codes "  value " ++ (value ++ (codes "\n  integer part " ++ (i j ++ (codes "\n" ++ (f j ++ last j))))))
+
+-- the pieces as they are appended
+pub float_pieces : (value integer fraction exponent : List ℕ) →
+    ((codes "  value " ++ (value ++ (codes "\n  integer part " ++ (integer ++ codes "\n")))) ++ fraction) ++ exponent
+    ≡ codes "  value " ++ (value ++ (codes "\n  integer part " ++ (integer ++ (codes "\n" ++ (fraction ++ exponent)))))
+float_pieces value integer fraction exponent =
+    let rest = fraction ++ exponent in
+    let line = codes "\n  integer part " ++ (integer ++ codes "\n") in
+    append_assoc (codes "  value " ++ (value ++ line)) fraction exponent
+    ∙ ap (λ (x : List ℕ). codes "  value " ++ x) (append_assoc value line rest
+    ∙ ap (λ (x : List ℕ). value ++ (codes "\n  integer part " ++ x)) (append_assoc integer (codes "\n") rest))
+
+pub explanation_pieces : (kind fields suffix : List ℕ) →
+    ((kind ++ codes "\n") ++ fields) ++ suffix ≡ kind ++ (codes "\n" ++ (fields ++ suffix))
+explanation_pieces kind fields suffix =
+    append_assoc (kind ++ codes "\n") fields suffix ∙ append_assoc kind (codes "\n") (fields ++ suffix)
 
 pub explanation_made : (kind lines suffix part written : List ℕ) (d : Derivation) → kind ≡ kind_name d →
     suffix ≡ field_of_part (codes "suffix") (encode_utf8_all (escaped (chars part))) → chars part ≡ suffix_of d →

@@ -1,3 +1,5 @@
+-- text that is appended
+pub mod Appending
 -- every character is an LF or printable
 pub mod Printed
 -- the literals of values

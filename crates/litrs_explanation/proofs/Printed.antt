@@ -32,12 +32,7 @@ use Rattle.litrs_build.proofs.HexDigits.{glyph_passes, digits_pass}
 use Rattle.litrs_build.proofs.PrintableAscii.{is_plain, plain_printable}
 use Rattle.litrs_build.proofs.Spellings.{encodes_ascii, scalars_all, scalars_append}
 use Rattle.ryu.specs.Plain.{IsPlainNumber}
-use Rattle.litrs_explanation.specs.Explanation.{kind_name, field, field_of_part, integer_text, integer_types, name_where_fits, names_of, names_that_fit, integer_fields, fraction_field, float_fields, out_of_range, IsValueText, escaped_char, escaped, is_line_feed_or_printable}
-
--- the bytes are UTF-8 of LFs and printable characters
-pub record Shows (bytes : List ℕ) : Type 0 where
-  pub utf8 : IsUtf8 bytes
-  pub clean : list_all is_line_feed_or_printable (chars bytes) ≡ true
+use Rattle.litrs_explanation.specs.Explanation.{kind_name, field, field_of_part, integer_text, integer_types, name_where_fits, names_of, names_that_fit, integer_fields, fraction_field, float_fields, out_of_range, IsValueText, escaped_char, escaped, is_line_feed_or_printable, Shows}
 
 pub both_show : (a b : List ℕ) → Shows a → Shows b → Shows (a ++ b)
 both_show a b x y = record {
@@ -392,10 +387,7 @@ suffix_shows t text =
     (encoded_shows (escaped t) (escaped_scalars t text) (escaped_clean t))
 
 -- all of it
-pub all_show : (kind lines suffix written : List ℕ) → Shows kind → Shows lines → Shows suffix →
-    written ≡ kind ++ (codes "\n" ++ (lines ++ suffix)) →
-    list_all is_line_feed_or_printable (chars written) ≡ true
-all_show kind lines suffix written k l s made =
-    let shown : Shows (kind ++ (codes "\n" ++ (lines ++ suffix))) =
-    both_show kind _ k (piece (codes "\n") _ refl (both_show lines suffix l s)) in
-    ap (λ (t : List ℕ). list_all is_line_feed_or_printable (chars t)) made ∙ shown.clean
+pub all_show : (kind lines suffix : List ℕ) → Shows kind → Shows lines → Shows suffix →
+    Shows (kind ++ (codes "\n" ++ (lines ++ suffix)))
+all_show kind lines suffix k l s =
+    both_show kind _ k (piece (codes "\n") _ refl (both_show lines suffix l s))

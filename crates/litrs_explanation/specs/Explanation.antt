@@ -4,8 +4,8 @@ use Rattle.std.specs.Fmt.{decimal, digits}
 use Rattle.std.specs.Float.{float_is_finite}
 use Rattle.std.specs.Float.Ieee.{Float, Format}
 use Rattle.std.specs.Float.Parse.{parse_float}
-use Rattle.std.specs.List.{flat_map}
-use Rattle.std.specs.Str.{chars, encode_utf8_all}
+use Rattle.std.specs.List.{flat_map, list_all}
+use Rattle.std.specs.Str.{chars, IsUtf8, encode_utf8_all}
 use Rattle.litrs_base.specs.Characters.{line_feed}
 use Rattle.litrs_base.specs.declared.integer.IntegerType.{IntegerType}
 use Rattle.litrs_base.specs.declared.integer.IntegerType.TheVariants.{U8, U16, U32, U64, U128, Usize, I8, I16, I32, I64, I128, Isize}
@@ -175,3 +175,8 @@ IsExplanation d lines =
 -- an LF or a printable character: an explanation has no other
 abbrev pub is_line_feed_or_printable : ℕ → Bool
 is_line_feed_or_printable c = (c == line_feed) || is_printable c
+
+-- The bytes are UTF-8 of such characters.
+pub record Shows (bytes : List ℕ) : Type 0 where
+  pub utf8 : IsUtf8 bytes
+  pub clean : IsTrue (list_all is_line_feed_or_printable (chars bytes))

@@ -1,5 +1,7 @@
 -- the lines on a literal
 pub mod Explanation
+-- text that is appended to a buffer
+pub mod Appended
 -- The words of the contracts, so that users name this crate alone
 pub use Rattle.litrs_grammar.specs.Integer
 pub use Rattle.litrs_grammar.specs.Literal

@@ -34,11 +34,10 @@
 //! every character of an explanation is an LF or printable.
 #![tactic(auto)]
 
-ghost use Rattle.std.specs.Prelude.{◌≡◌, ◌++◌, [], IfOk, OnOk, MatchOption, IsTrue, IsFalse, codes, string_bytes, encode_utf8_all};
+ghost use Rattle.std.specs.Prelude.{◌≡◌, ◌++◌, [], length, take, IfOk, OnOk, MatchOption, IsTrue, IsFalse, codes, string_bytes, encode_utf8_all};
 ghost use Rattle.std.specs.Float.{float_is_finite};
-ghost use Rattle.std.specs.List.{list_all, list_any};
+ghost use Rattle.std.specs.List.{list_all, list_any, flat_map};
 ghost use Rattle.std.specs.Str.{chars};
-ghost use Rattle.litrs_base.specs.Numeral.{greatest_of};
 ghost use Rattle.litrs.specs.LiteralDerivation.{derivation};
 ghost use Rattle.litrs_grammar.specs.CharByte.{char_text};
 ghost use Rattle.litrs_grammar.specs.Integer.{integer_value};
@@ -50,35 +49,23 @@ ghost use Rattle.litrs.specs.StringKind.{string_kind, byte_string_kind, c_string
 ghost use Rattle.litrs.specs.LiteralText.{string_text};
 ghost use Rattle.litrs_build.specs.CStrings.{written_c_string};
 ghost use Rattle.litrs_build.specs.Written.{written_char, written_string, written_byte_string};
-ghost use Rattle.litrs_explanation.specs.Explanation.{kind_name, IsExplanation, IsFields, field, value_field, field_of_part, integer_text, names_that_fit, names_of, integer_fields, IsTypeOf, IsNumber, IsNumberOf, IsOutOfRange, IsValueText, IsFloatFields, fraction_field, escaped, escaped_char, is_line_feed_or_printable};
+ghost use Rattle.litrs_explanation.specs.Explanation.{kind_name, IsExplanation, IsFields, field, value_field, field_of_part, integer_text, names_that_fit, names_of, integer_types, integer_fields, IsTypeOf, IsNumber, IsNumberOf, IsOutOfRange, IsValueText, IsFloatFields, fraction_field, escaped, escaped_char, is_line_feed_or_printable, Shows};
+ghost use Rattle.litrs_explanation.specs.Appended.{appended, Appends};
 
-use litrs::{Buffer, FloatLit, FloatType, IntegerLit, IntegerType, Literal};
+use litrs::{Buffer, FloatLit, FloatType, IntegerLit, Literal};
 use litrs_build::{BuildError, byte_string, c_string, char, is_printable, string};
 use litrs_value::float;
 use ryu::Float;
 use std::alloc::{AllocError, Global};
 use std::fmt::Write;
 
-/// All integer types, in the order in which an explanation names them.
-const INTEGER_TYPES: [IntegerType; 12] = [
-    IntegerType::U8,
-    IntegerType::U16,
-    IntegerType::U32,
-    IntegerType::U64,
-    IntegerType::U128,
-    IntegerType::Usize,
-    IntegerType::I8,
-    IntegerType::I16,
-    IntegerType::I32,
-    IntegerType::I64,
-    IntegerType::I128,
-    IntegerType::Isize,
-];
+/// The value of an integer that 128 bits do not hold.
+const TOO_LARGE: &str = "2^128 or more";
 
-/// Returns the lines that explain `literal`: its kind, its value, and each of its parts.
-///
-/// Every character of them is an LF or printable, by `litrs_build`'s `is_printable`: values are
-/// shown as literals, and a character of the suffix that is not printable as `\u{..}`.
+/// The names of the types that such an integer fits.
+const NO_NAMES: &str = " no integer type";
+
+/// Returns the lines that [`push_explanation`] appends.
 ///
 /// # Errors
 ///
@@ -89,10 +76,51 @@ pub fn explanation<B: Buffer>(alloc: Global, literal: &Literal<B>) -> Result<Str
     ensures printable { IfOk result (λ lines. IsTrue (
         list_all is_line_feed_or_printable (chars (string_bytes lines)))) }
 {
+    let mut lines = String::new(alloc);
+    push_explanation(&mut lines, literal)?;
+    Ok(lines)
+}
+
+/// Appends to `out` the lines that explain `literal`: its kind, its value, and each of its parts.
+///
+/// Every character of them is an LF or printable, by `litrs_build`'s `is_printable`: values are
+/// shown as literals, and a character of the suffix that is not printable as `\u{..}`.
+///
+/// # Errors
+///
+/// `AllocError` if an allocation fails. Then a part of the lines may have been appended.
+pub fn push_explanation<B: Buffer>(out: &mut String, literal: &Literal<B>) -> Result<(), AllocError>
+    ensures kept { take (length (string_bytes out.old)) (string_bytes out.new)
+        ≡ string_bytes out.old }
+    ensures lines { OnOk result (IsExplanation (derivation literal.now)
+        (appended (string_bytes out.old) (string_bytes out.new))) }
+    ensures printable { OnOk result (IsTrue (list_all is_line_feed_or_printable
+        (chars (appended (string_bytes out.old) (string_bytes out.new))))) }
+{
+    push_lines(out, literal)
+}
+
+/// Like [`push_explanation`].
+fn push_lines<B: Buffer>(out: &mut String, literal: &Literal<B>) -> Result<(), AllocError>
+    ensures { Appends (string_bytes out.old) (string_bytes out.new) result
+        (λ lines. IsExplanation (derivation literal.now) lines × Shows lines) }
+{
     let kind = kind_name(literal);
-    let fields = fields(alloc, literal)?;
-    let suffix = suffix_field(alloc, literal.suffix())?;
-    format!(in alloc; "{kind}\n{fields}{suffix}")
+    let suffix = literal.suffix();
+    push_texts(out, &[kind, "\n"])?;
+    push_fields(out, literal)?;
+    push_suffix(out, suffix)
+}
+
+/// Appends `texts`, one after the other.
+fn push_texts(out: &mut String, texts: &[&str]) -> Result<(), AllocError>
+    ensures { Appends (string_bytes out.old) (string_bytes out.new) result
+        (λ added. added ≡ flat_map (λ text. text.now) texts.now) }
+{
+    for text in texts {
+        out.push_str(*text)?;
+    }
+    Ok(())
 }
 
 /// Returns the name of the kind of `literal`, for example `C string`.
@@ -111,104 +139,101 @@ pub fn kind_name<B: Buffer>(literal: &Literal<B>) -> &'static str
     }
 }
 
-/// Returns the lines on the value of `literal` and on its parts except the suffix.
-fn fields<B: Buffer>(alloc: Global, literal: &Literal<B>) -> Result<String, AllocError>
-    ensures lines { IfOk result (λ lines.
-        IsFields (derivation literal.now) (string_bytes lines)) }
-    ensures printable { IfOk result (λ lines. IsTrue (
-        list_all is_line_feed_or_printable (chars (string_bytes lines)))) }
+/// Appends the lines on the value of `literal` and on its parts except the suffix.
+fn push_fields<B: Buffer>(out: &mut String, literal: &Literal<B>) -> Result<(), AllocError>
+    ensures { Appends (string_bytes out.old) (string_bytes out.new) result
+        (λ lines. IsFields (derivation literal.now) lines × Shows lines) }
 {
     match literal {
-        Literal::Bool(lit) => field(alloc, lit.as_str()),
-        Literal::Integer(lit) => integer_fields(alloc, lit),
-        Literal::Float(lit) => float_fields(alloc, lit),
-        Literal::Byte(lit) => {
-            let value = lit.value();
-            format!(in alloc; "  value {value}\n")
-        }
-        Literal::Char(lit) => char_field(alloc, lit.value()),
-        Literal::String(lit) => string_field(alloc, lit.value()),
-        Literal::ByteString(lit) => byte_string_field(alloc, lit.value()),
-        Literal::CString(lit) => c_string_field(alloc, lit.value().to_bytes()),
+        Literal::Bool(lit) => push_value(out, lit.as_str()),
+        Literal::Integer(lit) => push_integer(out, lit),
+        Literal::Float(lit) => push_float(out, lit),
+        Literal::Byte(lit) => push_value(out, itoa::Buffer::new().format(lit.value())),
+        Literal::Char(lit) => push_char(out, lit.value()),
+        Literal::String(lit) => push_string(out, lit.value()),
+        Literal::ByteString(lit) => push_byte_string(out, lit.value()),
+        Literal::CString(lit) => push_c_string(out, lit.value().to_bytes()),
     }
 }
 
-/// Returns the line on the value of a char, which is shown as a literal.
-fn char_field(alloc: Global, value: char) -> Result<String, AllocError>
-    ensures line { IfOk result (λ line. string_bytes line
-        ≡ value_field (char_text char_kind (written_char value []))) }
-    ensures printable { IfOk result (λ line. IsTrue (
-        list_all is_line_feed_or_printable (chars (string_bytes line)))) }
+/// Appends the line on the value of a char, which is shown as a literal.
+fn push_char(out: &mut String, value: char) -> Result<(), AllocError>
+    ensures { Appends (string_bytes out.old) (string_bytes out.new) result
+        (λ line. (line
+        ≡ value_field (char_text char_kind (written_char value [])))
+        × Shows line) }
 {
-    match char(alloc, value, "") {
-        Ok(built) => field(alloc, built.raw_input()),
+    match char(*out.allocator(), value, "") {
+        Ok(built) => push_value(out, built.raw_input()),
         Err(BuildError::Memory) => Err(AllocError),
         Err(_) => unreachable!(),
     }
 }
 
-/// Returns the line on the value of a string, which is shown as a literal.
-fn string_field(alloc: Global, value: &str) -> Result<String, AllocError>
-    ensures line { IfOk result (λ line. string_bytes line
-        ≡ value_field (string_text string_kind (written_string (chars value.now) []))) }
-    ensures printable { IfOk result (λ line. IsTrue (
-        list_all is_line_feed_or_printable (chars (string_bytes line)))) }
+/// Appends the line on the value of a string, which is shown as a literal.
+fn push_string(out: &mut String, value: &str) -> Result<(), AllocError>
+    ensures { Appends (string_bytes out.old) (string_bytes out.new) result
+        (λ line. (line
+        ≡ value_field (string_text string_kind (written_string (chars value.now) [])))
+        × Shows line) }
 {
-    match string(alloc, value, "") {
-        Ok(built) => field(alloc, built.raw_input()),
+    match string(*out.allocator(), value, "") {
+        Ok(built) => push_value(out, built.raw_input()),
         Err(BuildError::Memory) => Err(AllocError),
         Err(_) => unreachable!(),
     }
 }
 
-/// Returns the line on the value of a byte string, which is shown as a literal.
-fn byte_string_field(alloc: Global, value: &[u8]) -> Result<String, AllocError>
-    ensures line { IfOk result (λ line. string_bytes line
-        ≡ value_field (string_text byte_string_kind (written_byte_string value.now []))) }
-    ensures printable { IfOk result (λ line. IsTrue (
-        list_all is_line_feed_or_printable (chars (string_bytes line)))) }
+/// Appends the line on the value of a byte string, which is shown as a literal.
+fn push_byte_string(out: &mut String, value: &[u8]) -> Result<(), AllocError>
+    ensures { Appends (string_bytes out.old) (string_bytes out.new) result
+        (λ line. (line
+        ≡ value_field (string_text byte_string_kind (written_byte_string value.now [])))
+        × Shows line) }
 {
-    match byte_string(alloc, value, "") {
-        Ok(built) => field(alloc, built.raw_input()),
+    match byte_string(*out.allocator(), value, "") {
+        Ok(built) => push_value(out, built.raw_input()),
         Err(BuildError::Memory) => Err(AllocError),
         Err(_) => unreachable!(),
     }
 }
 
-/// Returns the line on the value of a C string, which is given without its closing NUL and shown
+/// Appends the line on the value of a C string, which is given without its closing NUL and shown
 /// as a literal.
-fn c_string_field(alloc: Global, value: &[u8]) -> Result<String, AllocError>
+fn push_c_string(out: &mut String, value: &[u8]) -> Result<(), AllocError>
     requires { IsFalse (list_any is_nul value.now) }
-    ensures line { IfOk result (λ line. string_bytes line
-        ≡ value_field (string_text c_string_kind (written_c_string value.now []))) }
-    ensures printable { IfOk result (λ line. IsTrue (
-        list_all is_line_feed_or_printable (chars (string_bytes line)))) }
+    ensures { Appends (string_bytes out.old) (string_bytes out.new) result
+        (λ line. (line
+        ≡ value_field (string_text c_string_kind (written_c_string value.now [])))
+        × Shows line) }
 {
-    match c_string(alloc, value, "") {
-        Ok(built) => field(alloc, built.raw_input()),
+    match c_string(*out.allocator(), value, "") {
+        Ok(built) => push_value(out, built.raw_input()),
         Err(BuildError::Memory) => Err(AllocError),
         Err(_) => unreachable!(),
     }
 }
 
-/// Returns the line on a value.
-fn field(alloc: Global, value: &str) -> Result<String, AllocError>
-    ensures { IfOk result (λ line. string_bytes line ≡ field (codes "value") value.now) }
+/// Appends the line on a value.
+fn push_value(out: &mut String, value: &str) -> Result<(), AllocError>
+    ensures { Appends (string_bytes out.old) (string_bytes out.new) result
+        (λ line. line ≡ field (codes "value") value.now) }
 {
-    format!(in alloc; "  value {value}\n")
+    push_texts(out, &["  value ", value, "\n"])
 }
 
-/// Returns the line on a suffix, or an empty text if there is no suffix. Characters that are not
-/// printable, such as the zero width joiner, are written as `\u{..}`.
-fn suffix_field(alloc: Global, suffix: &str) -> Result<String, AllocError>
-    ensures { IfOk result (λ line. string_bytes line
+/// Appends the line on a suffix, if there is one. Characters that are not printable, such as the
+/// zero width joiner, are written as `\u{..}`.
+fn push_suffix(out: &mut String, suffix: &str) -> Result<(), AllocError>
+    ensures { Appends (string_bytes out.old) (string_bytes out.new) result
+        (λ line. line
         ≡ field_of_part (codes "suffix") (encode_utf8_all (escaped (chars suffix.now)))) }
 {
-    let mut shown = String::new(alloc);
+    let mut shown = String::new(*out.allocator());
     for c in suffix.chars() {
         push_escaped(&mut shown, c)?;
     }
-    field_of_part(alloc, "suffix", shown.as_str())
+    push_part(out, "suffix", shown.as_str())
 }
 
 /// Appends `c` to `text`, as `\u{..}` if it is not printable.
@@ -224,31 +249,62 @@ fn push_escaped(text: &mut String, c: char) -> Result<(), AllocError>
     }
 }
 
-/// Returns the line on a part, or an empty text if the part is empty.
-fn field_of_part(alloc: Global, name: &str, part: &str) -> Result<String, AllocError>
-    ensures { IfOk result (λ line. string_bytes line ≡ field_of_part name.now part.now) }
+/// Appends the line on a part that is not empty.
+fn push_part<'a>(out: &mut String, name: &'a str, part: &'a str) -> Result<(), AllocError>
+    ensures { Appends (string_bytes out.old) (string_bytes out.new) result
+        (λ line. line ≡ field_of_part name.now part.now) }
 {
     match part {
-        "" => Ok(String::new(alloc)),
-        _ => format!(in alloc; "  {name} {part}\n"),
+        "" => Ok(()),
+        _ => push_texts(out, &["  ", name, " ", part, "\n"]),
     }
 }
 
-/// Returns the lines on the value, the base and the digits of an integer, and on the types that it
+/// Appends the lines on the value, the base and the digits of an integer, and on the types that it
 /// fits.
-fn integer_fields<B: Buffer>(alloc: Global, lit: &IntegerLit<B>) -> Result<String, AllocError>
-    ensures lines { IfOk result (λ lines.
-        string_bytes lines ≡ integer_fields (integer_parts lit.now)) }
-    ensures printable { IfOk result (λ lines. IsTrue (
-        list_all is_line_feed_or_printable (chars (string_bytes lines)))) }
+fn push_integer<B: Buffer>(out: &mut String, lit: &IntegerLit<B>) -> Result<(), AllocError>
+    ensures { Appends (string_bytes out.old) (string_bytes out.new) result
+        (λ lines. (lines ≡ integer_fields (integer_parts lit.now)) × Shows lines) }
 {
     // Called for its contract: the parts are those of an integer.
     let _ = lit.raw_input();
-    let value = integer_text(alloc, lit)?;
-    let base = lit.base().value();
+    match lit.value::<u128>() {
+        Some(value) => {
+            push_integer_parts(out, lit, itoa::Buffer::new().format(value), names_of(value))
+        }
+        None => push_integer_parts(out, lit, TOO_LARGE, NO_NAMES),
+    }
+}
+
+/// Appends the lines on an integer with the value `value`, which fits the types `names`.
+fn push_integer_parts<'a, B: Buffer>(
+    out: &mut String,
+    lit: &'a IntegerLit<B>,
+    value: &'a str,
+    names: &'a str,
+) -> Result<(), AllocError>
+    requires value { value.now ≡ integer_text (integer_value (integer_parts lit.now)) }
+    requires names { names.now ≡ names_that_fit (integer_value (integer_parts lit.now)) }
+    ensures { Appends (string_bytes out.old) (string_bytes out.new) result
+        (λ lines. lines ≡ integer_fields (integer_parts lit.now)) }
+{
+    let mut number = itoa::Buffer::new();
+    let base = number.format(lit.base().value());
     let digits = lit.raw_main_part();
-    let fits = names_that_fit(alloc, lit)?;
-    format!(in alloc; "  value {value}\n  base {base}\n  digits {digits}\n  fits{fits}\n")
+    push_texts(
+        out,
+        &[
+            "  value ",
+            value,
+            "\n  base ",
+            base,
+            "\n  digits ",
+            digits,
+            "\n  fits",
+            names,
+            "\n",
+        ],
+    )
 }
 
 /// Returns the value of `lit` in decimal, or `2^128 or more`. The suffix is ignored.
@@ -261,8 +317,8 @@ pub fn integer_text<B: Buffer>(alloc: Global, lit: &IntegerLit<B>) -> Result<Str
         ≡ integer_text (integer_value (integer_parts lit.now))) }
 {
     match lit.value::<u128>() {
-        Some(value) => format!(in alloc; "{value}"),
-        None => String::from_str(alloc, "2^128 or more"),
+        Some(value) => String::from_str(alloc, itoa::Buffer::new().format(value)),
+        None => String::from_str(alloc, TOO_LARGE),
     }
 }
 
@@ -277,57 +333,50 @@ pub fn names_that_fit<B: Buffer>(alloc: Global, lit: &IntegerLit<B>) -> Result<S
         ≡ names_that_fit (integer_value (integer_parts lit.now))) }
 {
     match lit.value::<u128>() {
-        Some(value) => names_of(alloc, value, &INTEGER_TYPES),
-        None => String::from_str(alloc, " no integer type"),
+        Some(value) => String::from_str(alloc, names_of(value)),
+        None => String::from_str(alloc, NO_NAMES),
     }
 }
 
-/// Returns the names of those of `types` that `value` fits, each after a space.
-fn names_of(alloc: Global, value: u128, types: &[IntegerType]) -> Result<String, AllocError>
-    ensures { IfOk result (λ names. string_bytes names ≡ names_of value types.now) }
+/// Returns the names of the integer types that `value` fits, each after a space.
+fn names_of(value: u128) -> &'static str
+    ensures { result.now ≡ names_of value integer_types }
 {
-    let mut names = String::new(alloc);
-    for ty in types {
-        if value <= greatest_of(*ty) {
-            names.push(' ')?;
-            names.push_str(ty.suffix())?;
-        }
-    }
-    Ok(names)
-}
-
-/// Returns the greatest value of `ty`.
-fn greatest_of(ty: IntegerType) -> u128
-    ensures { result ≡ greatest_of ty }
-{
-    match ty {
-        IntegerType::U8 => 0xff,
-        IntegerType::U16 => 0xffff,
-        IntegerType::U32 => 0xffff_ffff,
-        IntegerType::U64 | IntegerType::Usize => 0xffff_ffff_ffff_ffff,
-        IntegerType::U128 => 0xffff_ffff_ffff_ffff_ffff_ffff_ffff_ffff,
-        IntegerType::I8 => 0x7f,
-        IntegerType::I16 => 0x7fff,
-        IntegerType::I32 => 0x7fff_ffff,
-        IntegerType::I64 | IntegerType::Isize => 0x7fff_ffff_ffff_ffff,
-        IntegerType::I128 => 0x7fff_ffff_ffff_ffff_ffff_ffff_ffff_ffff,
+    match value {
+        0..=0x7f => " u8 u16 u32 u64 u128 usize i8 i16 i32 i64 i128 isize",
+        0x80..=0xff => " u8 u16 u32 u64 u128 usize i16 i32 i64 i128 isize",
+        0x100..=0x7fff => " u16 u32 u64 u128 usize i16 i32 i64 i128 isize",
+        0x8000..=0xffff => " u16 u32 u64 u128 usize i32 i64 i128 isize",
+        0x1_0000..=0x7fff_ffff => " u32 u64 u128 usize i32 i64 i128 isize",
+        0x8000_0000..=0xffff_ffff => " u32 u64 u128 usize i64 i128 isize",
+        0x1_0000_0000..=0x7fff_ffff_ffff_ffff => " u64 u128 usize i64 i128 isize",
+        0x8000_0000_0000_0000..=0xffff_ffff_ffff_ffff => " u64 u128 usize i128",
+        0x1_0000_0000_0000_0000..=0x7fff_ffff_ffff_ffff_ffff_ffff_ffff_ffff => " u128 i128",
+        _ => " u128",
     }
 }
 
-/// Returns the lines on the value of a float, and on its parts except the suffix.
-fn float_fields<B: Buffer>(alloc: Global, lit: &FloatLit<B>) -> Result<String, AllocError>
-    ensures lines { IfOk result (λ lines.
-        IsFloatFields (float_parts lit.now) (string_bytes lines)) }
-    ensures printable { IfOk result (λ lines. IsTrue (
-        list_all is_line_feed_or_printable (chars (string_bytes lines)))) }
+/// Appends the lines on the value of a float, and on its parts except the suffix.
+fn push_float<B: Buffer>(out: &mut String, lit: &FloatLit<B>) -> Result<(), AllocError>
+    ensures { Appends (string_bytes out.old) (string_bytes out.new) result
+        (λ lines. IsFloatFields (float_parts lit.now) lines × Shows lines) }
 {
     // Called for its contract: the parts are those of a float.
     let _ = lit.raw_input();
-    let value = float_text(alloc, lit)?;
+    let value = float_text(*out.allocator(), lit)?;
     let integer = lit.integer_part();
-    let fraction = fraction_field(alloc, lit)?;
-    let exponent = field_of_part(alloc, "exponent", lit.exponent_part())?;
-    format!(in alloc; "  value {value}\n  integer part {integer}\n{fraction}{exponent}")
+    push_texts(
+        out,
+        &[
+            "  value ",
+            value.as_str(),
+            "\n  integer part ",
+            integer,
+            "\n",
+        ],
+    )?;
+    push_fraction(out, lit)?;
+    push_part(out, "exponent", lit.exponent_part())
 }
 
 /// Returns the value of `lit` in decimal, as a value of its [`float_type`], or
@@ -402,13 +451,13 @@ fn number<F: Float>(alloc: Global, value: F, is_finite: bool) -> Result<Option<S
     Ok(Some(text))
 }
 
-/// Returns the line on the digits after the period, or an empty text if there is no period.
-fn fraction_field<B: Buffer>(alloc: Global, lit: &FloatLit<B>) -> Result<String, AllocError>
-    ensures { IfOk result (λ line. string_bytes line
-        ≡ fraction_field (float_parts lit.now).fraction) }
+/// Appends the line on the digits after the period, if there is a period.
+fn push_fraction<B: Buffer>(out: &mut String, lit: &FloatLit<B>) -> Result<(), AllocError>
+    ensures { Appends (string_bytes out.old) (string_bytes out.new) result
+        (λ line. line ≡ fraction_field (float_parts lit.now).fraction) }
 {
     match lit.fractional_part() {
-        Some(digits) => format!(in alloc; "  fraction {digits}\n"),
-        None => Ok(String::new(alloc)),
+        Some(digits) => push_texts(out, &["  fraction ", digits, "\n"]),
+        None => Ok(()),
     }
 }

@@ -1,13 +1,13 @@
 -- Each turn adds one character; at the end all have been added.
-use Rattle.std.proofs.Common.{List, ℕ, sym, ap, ◌∙◌, map-id}
+use Rattle.std.proofs.Common.{◌≡◌, List, ℕ, sym, ap, ◌∙◌, map-id, string_bytes}
 use Rattle.std.specs.Prelude.{codes}
-use Rattle.std.specs.Str.{encode_utf8_all}
+use Rattle.std.specs.Str.{chars, encode_utf8_all}
 use Rattle.std.proofs.lemmas.Iterator.{YieldsList-from_chars}
 use Rattle.std.proofs.lemmas.Iterator.Consumers.{YieldsList-end}
-use Rattle.std.proofs.lemmas.Result.{IfOk-weaker}
 use Rattle.litrs_explanation.specs.Explanation.{field_of_part, escaped}
+use Rattle.litrs_explanation.proofs.Appending.{appended_as}
 use Rattle.litrs_explanation.proofs.Explained.{more_escaped}
-use Rattle.litrs_explanation.proofs.suffix_field.Goals as goal
+use Rattle.litrs_explanation.proofs.push_suffix.Goals as goal
 
 pub loop-c-preserved : goal.loop-c-preserved
 loop-c-preserved c =
@@ -19,6 +19,8 @@ returns c =
     c.loop-c.yielded _ c.loop-c.yielded_by _ _ c.in-None.is c.next.ensures.steps in
     let all = c.loop-c.invariant
     ∙ ap (λ (t : List ℕ). encode_utf8_all (escaped t)) (sym (map-id c.loop-c.yielded) ∙ end.0) in
-    IfOk-weaker c.field_of_part.result _ _
+    appended_as (string_bytes c.args.out.now) (string_bytes c.push_part.new.out) c.push_part.result
+    (λ line. line ≡ field_of_part (codes "suffix") c.as_str.result.now)
+    (λ line. line ≡ field_of_part (codes "suffix") (encode_utf8_all (escaped (chars c.args.suffix.now))))
     (λ line made. made ∙ ap (field_of_part (codes "suffix")) (c.as_str.ensures.value ∙ all))
-    c.field_of_part.ensures
+    c.push_part.ensures
