@@ -1,15 +1,16 @@
 #!/usr/bin/env python3
 """Counts the instructions that a collector takes to be fed pieces.
 
-    .ci/steps.py [PROGRAM]..
+    .ci/steps.py [PROGRAM]
 
-Runs both builds of crates/litrs_vectors, which `rt ci` leaves in its out/, or the programs given, on
-rows that feed a collector a piece N, 2N and 4N times. By .ci/steps.c each run says how many
-instructions it took. Where each piece takes as many as the one before, those of 4N exceed those of
-2N by twice as many as those of 2N exceed those of N. Where each piece takes time in proportion to all
-that was fed, by four times as many. Fails where it is more than `MOST` times as many.
+Runs crates/litrs_vectors, which `rt ci` leaves in its out/, or the program given, on rows that
+feed a collector a piece N, 2N and 4N times. By .ci/steps.c each run says how many instructions it
+took. If each piece takes as many as the one before, those of 4N exceed those of 2N by twice as many
+as those of 2N exceed those of N. If each takes as many as all before it together, by four times as
+many. Fails where it is more than `MOST` times as many.
 """
 import concurrent.futures
+import functools
 import os
 import pathlib
 import subprocess
@@ -22,7 +23,7 @@ PROGRAM = TOP / "crates/litrs_vectors/out/litrs_vectors"
 COUNT = 100
 MOST = 2.5
 # A copy of many bytes by one instruction counts as an instruction for each byte, so there is none.
-TUNABLES = "glibc.cpu.x86_rep_movsb_threshold=0x40000000:glibc.cpu.x86_rep_stosb_threshold=0x40000000"
+TUNABLES = ":".join(f"glibc.cpu.x86_rep_{it}_threshold=0x40000000" for it in ("movsb", "stosb"))
 # A first line, a piece, and a last line that completes a literal, as fields of the table.
 SHAPES = [
     ('"', "\\%0A ", '"'),
@@ -37,7 +38,7 @@ SHAPES = [
 
 
 def instructions(steps, program, shape, count):
-    """Returns how many instructions the program takes on a row that feeds the piece `count` times."""
+    """Returns how many instructions a row takes that feeds the piece `count` times."""
     first, piece, last = shape
     row = f"feed\t{first}\t{piece}\t{count}\t{last}\n".encode()
     with tempfile.NamedTemporaryFile(dir=steps.parent) as number:
@@ -56,21 +57,20 @@ def growth(numbers):
 
 
 def main():
-    programs = sys.argv[1:] or [str(PROGRAM), f"{PROGRAM}.by-rattle"]
+    program = sys.argv[1] if len(sys.argv) > 1 else str(PROGRAM)
     failed = False
     with tempfile.TemporaryDirectory(prefix="steps-") as room:
         steps = pathlib.Path(room) / "steps"
         subprocess.run(["cc", "-O1", "-o", steps, TOP / ".ci/steps.c"], check=True)
-        tasks = [(it, shape) for it in programs for shape in SHAPES]
         counts = [COUNT, 2 * COUNT, 4 * COUNT]
         with concurrent.futures.ThreadPoolExecutor(os.cpu_count()) as pool:
-            runs = [[pool.submit(instructions, steps, *it, n) for n in counts] for it in tasks]
-            for (program, (first, piece, _)), run in zip(tasks, runs):
-                numbers = [it.result() for it in run]
+            run = functools.partial(pool.submit, instructions, steps, program)
+            runs = [[run(shape, count) for count in counts] for shape in SHAPES]
+            for (first, piece, _), of_shape in zip(SHAPES, runs):
+                numbers = [it.result() for it in of_shape]
                 times = growth(numbers)
                 failed |= times > MOST
-                name = pathlib.Path(program).name
-                print(f"{name}: {first} and {piece}: {numbers} instructions, {times:.2f} times")
+                print(f"{first} and {piece}: {numbers} instructions, {times:.2f} times as many")
     sys.exit(1 if failed else 0)
 
 
