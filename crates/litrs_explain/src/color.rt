@@ -7,9 +7,6 @@ use std::alloc::{AllocError, Global};
 /// Ends a color.
 const PLAIN: &str = "\x1b[0m";
 
-/// The color of the place of a literal.
-const GREEN: &str = "\x1b[32m";
-
 /// The color of the word `error`, and of carets.
 const BOLD_RED: &str = "\x1b[1;31m";
 
@@ -28,11 +25,6 @@ struct Style {
     front: &'static str,
     /// The color of the rest.
     rest: &'static str,
-}
-
-/// Returns the place of a literal in color.
-pub(crate) fn colored_place(alloc: Global, place: &str) -> Result<String, AllocError> {
-    format!(in alloc; "{GREEN}{place}{PLAIN}")
 }
 
 /// Returns the lines that [`Diagnostic`](litrs_diagnostic::Diagnostic) writes in color.
