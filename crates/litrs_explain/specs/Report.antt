@@ -11,7 +11,7 @@ place_text name place =
     name ++ (codes ":" ++
     (decimal place.line ++ (codes ":" ++ (decimal place.column ++ codes ":"))))
 
--- The report is a place, perhaps in color, and an explanation of the literal that begins there.
-abbrev pub IsLiteralReport : (place : List ℕ) → Derivation → (report : List ℕ) → Type 0
-IsLiteralReport place d report =
-    (lines : List ℕ) × IsExplanation d lines × (report ≡ place ++ (codes " " ++ lines))
+-- The report ends with a blank and an explanation of the literal, after the text `front`.
+abbrev pub IsLiteralReport : (front : List ℕ) → Derivation → (report : List ℕ) → Type 0
+IsLiteralReport front d report =
+    (lines : List ℕ) × IsExplanation d lines × (report ≡ front ++ (codes " " ++ lines))

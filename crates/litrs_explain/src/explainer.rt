@@ -14,7 +14,7 @@ use crate::report::{AROUND, Problem, Reports};
 use crate::text::{cut, without_line_end};
 use litrs::{Literal, ParseError, ParseErrorKind};
 use litrs_lexer::{Token, TokenKind, Tokens};
-use litrs_lines::{Collector, Step};
+use litrs_lines::Collector;
 use std::alloc::{AllocError, Global};
 use std::ops::Range;
 use std::{mem, str};
@@ -33,7 +33,7 @@ pub(crate) struct Explainer<'a> {
     open: Option<Open>,
     /// The lines of an incomplete token, and a part of the first line before it.
     held: String,
-    /// The place in the file of the text that is read: `held` and the line, or the line alone.
+    /// The place in the file of the text that is read: the line, after what is held.
     place: Place,
     /// The start of what is incomplete, or of the line if nothing is.
     opening: Offset,
@@ -105,93 +105,125 @@ impl<'a> Explainer<'a> {
     ///
     /// As [`Explainer::feed`].
     pub(crate) fn finish(&mut self) -> Result<(), Error> {
-        let collector = mem::replace(&mut self.collector, Collector::new(self.alloc));
-        let text = mem::replace(&mut self.held, String::new(self.alloc));
         if self.open.take().is_some() {
+            let text = mem::replace(&mut self.held, String::new(self.alloc));
             self.explain_tokens(text.as_str(), true)?;
         }
-        match collector.finish() {
-            Some(error) => self.refuse(text.as_str(), self.start(), 0..text.len(), &error),
-            None => Ok(()),
+        if self.collector.is_empty() {
+            return Ok(());
         }
+        let text = String::from_str(self.alloc, self.collector.text())?;
+        self.collector.clear();
+        self.explain_text(text.as_str(), false)
     }
 
     /// Like [`Explainer::feed`], for a line that is UTF-8, without its end.
     fn feed_text(&mut self, line: &str) -> Result<(), Error> {
+        if self.reports.options.prefix {
+            self.feed_tokens(line)
+        } else {
+            self.feed_line(line)
+        }
+    }
+
+    /// Like [`Explainer::feed_text`], for a line that is a literal or a part of one.
+    fn feed_line(&mut self, line: &str) -> Result<(), Error> {
+        if self.collector.is_empty() {
+            self.start_text();
+            return self.explain_text(line, true);
+        }
+        let len = self.collector.text().len();
+        self.start_line(len.saturating_add(1))?;
+        if self.collector.push(line)? {
+            return Ok(());
+        }
+        let text = self.collector.take_with(line)?;
+        self.explain_text(text.as_str(), false)
+    }
+
+    /// Explains a text that is to be a literal. It may also begin one if `is_first`, and is then
+    /// held.
+    fn explain_text(&mut self, text: &str, is_first: bool) -> Result<(), Error> {
+        if text.is_empty() {
+            return Ok(());
+        }
+        match Literal::parse(self.alloc, text) {
+            Ok(literal) => self.add_literal(text, self.start(), text.len(), &literal),
+            Err(error) => match error.kind() {
+                ParseErrorKind::OutOfMemory => Err(Error::Memory),
+                _ => self.explain_error(text, is_first, &error),
+            },
+        }
+    }
+
+    /// Like [`Explainer::explain_text`], for a text with this error.
+    fn explain_error(
+        &mut self,
+        text: &str,
+        is_first: bool,
+        error: &ParseError,
+    ) -> Result<(), Error> {
+        if is_first && !error.is_final() && self.collector.push(text)? {
+            return Ok(());
+        }
+        self.refuse(text, self.start(), 0..text.len(), error)
+    }
+
+    /// Like [`Explainer::feed_text`], for a line in which literals are found.
+    fn feed_tokens(&mut self, line: &str) -> Result<(), Error> {
+        let Some(open) = self.open else {
+            self.start_text();
+            return self.explain_lines(line);
+        };
         let mut text = mem::replace(&mut self.held, String::new(self.alloc));
-        self.start_line(&mut text)?;
+        text.push('\n')?;
+        self.start_line(text.len())?;
         text.push_str(line)?;
+        self.open = open.after(line);
+        if self.open.is_some() {
+            self.unreadable = self.unreadable.min(text.len());
+            self.held = text;
+            return Ok(());
+        }
+        self.explain_lines(text.as_str())
+    }
+
+    /// Explains the literals in a text, and holds what is incomplete at its end.
+    fn explain_lines(&mut self, text: &str) -> Result<(), Error> {
         self.unreadable = self.unreadable.min(text.len());
-        match self.explain(text.as_str(), line)? {
-            Some(0) => {}
+        match self.explain_tokens(text, false)? {
             Some(start) => {
                 self.unreadable = self.unreadable.saturating_sub(start);
-                text = String::from_str(self.alloc, cut(text.as_str(), start).1)?;
+                self.held = String::from_str(self.alloc, cut(text, start).1)?;
             }
-            None => {
-                self.unreadable = 0;
-                text.clear();
-            }
+            None => self.unreadable = 0,
         }
-        self.held = text;
         Ok(())
     }
 
-    /// Starts a line, after the text that is held for it, if any.
-    fn start_line(&mut self, text: &mut String) -> Result<(), AllocError> {
-        if self.collector.is_empty() && self.open.is_none() {
-            self.place = self.next;
-            self.opening = Offset {
-                in_text: 0,
-                in_file: self.next_in_file,
-            };
-            self.lines.clear();
-            return Ok(());
-        }
-        text.push('\n')?;
-        if self.in_file(text.len()) != self.next_in_file {
+    /// Starts a text at the start of a line.
+    fn start_text(&mut self) {
+        self.place = self.next;
+        self.opening = Offset {
+            in_text: 0,
+            in_file: self.next_in_file,
+        };
+        self.lines.clear();
+    }
+
+    /// Starts a line at the place `at` of the text that is held for it.
+    fn start_line(&mut self, at: usize) -> Result<(), AllocError> {
+        if self.in_file(at) != self.next_in_file {
             self.lines.push(Offset {
-                in_text: text.len(),
+                in_text: at,
                 in_file: self.next_in_file,
             })?;
         }
         Ok(())
     }
 
-    /// Explains what ends with `line`, the last line of `text`. Returns where the text begins that
-    /// is to be held, if something is incomplete.
-    fn explain(&mut self, text: &str, line: &str) -> Result<Option<usize>, Error> {
-        if !self.reports.options.prefix {
-            return self.explain_line(text, line);
-        }
-        if let Some(open) = self.open {
-            self.open = open.after(line);
-            if self.open.is_some() {
-                return Ok(Some(0));
-            }
-        }
-        self.explain_tokens(text, false)
-    }
-
-    /// Like [`Explainer::explain`], for lines that are literals.
-    fn explain_line(&mut self, text: &str, line: &str) -> Result<Option<usize>, Error> {
-        if text.is_empty() {
-            return Ok(None);
-        }
-        match self.collector.feed(line)? {
-            Step::More => return Ok(Some(0)),
-            Step::Literal(literal) => {
-                let start = self.start();
-                let span = self.span(start, start.moved(text, text.len()));
-                self.reports.add_literal(&span, &literal)?;
-            }
-            Step::Refused(error) => self.refuse(text, self.start(), 0..text.len(), &error)?,
-        }
-        Ok(None)
-    }
-
-    /// Like [`Explainer::explain`], for the literals in any text. `is_last` says that no line
-    /// follows.
+    /// Explains the literals in any text. Returns where the text begins that is to be held, if
+    /// something is incomplete. `is_last` says that no line follows.
     fn explain_tokens(&mut self, text: &str, is_last: bool) -> Result<Option<usize>, Error> {
         let mut marks = Marks {
             literal: self.start(),
@@ -221,10 +253,8 @@ impl<'a> Explainer<'a> {
         let range = token.range();
         match Literal::parse(self.alloc, token.text) {
             Ok(literal) => {
-                let start = marks.literal.moved(text, range.start);
-                marks.literal = start.moved(text, range.end);
-                let span = self.span(start, marks.literal);
-                self.reports.add_literal(&span, &literal)
+                marks.literal = marks.literal.moved(text, range.start);
+                self.add_literal(text, marks.literal, range.end, &literal)
             }
             Err(error) => match error.kind() {
                 ParseErrorKind::OutOfMemory => Err(Error::Memory),
@@ -279,6 +309,22 @@ impl<'a> Explainer<'a> {
             start: start.place,
             end: end.place,
             bytes: self.in_file(start.at)..self.in_file(end.at),
+        }
+    }
+
+    /// Reports the literal from `start` to the place `end` of the text.
+    fn add_literal(
+        &mut self,
+        text: &str,
+        start: Mark,
+        end: usize,
+        literal: &Literal<&str>,
+    ) -> Result<(), Error> {
+        if self.reports.options.json {
+            let span = self.span(start, start.moved(text, end));
+            self.reports.add_literal_object(&span, literal)
+        } else {
+            self.reports.add_literal(start.place, literal)
         }
     }
 

@@ -1,5 +1,6 @@
 //! The standard output.
 use crate::error::Error;
+use crate::text::cut;
 use std::io;
 use std::io::Write;
 
@@ -12,8 +13,10 @@ pub(crate) struct Output {
     rt: HostRuntime,
     /// Set if each report is written immediately.
     is_terminal: bool,
-    /// Whole reports.
-    unwritten: String,
+    /// The reports that are not written yet, and the one that is being made.
+    pub(crate) unwritten: String,
+    /// The length of the whole reports in `unwritten`, in bytes.
+    whole: usize,
 }
 
 impl Output {
@@ -23,26 +26,37 @@ impl Output {
             rt,
             is_terminal,
             unwritten: String::new(rt.alloc()),
+            whole: 0,
         }
     }
 
-    /// Adds a report. Writes the reports so far if there are many, or if the output is a terminal.
+    /// Adds a report.
     pub(crate) fn add(&mut self, report: &str) -> Result<(), Error> {
         if report.len() >= BUFFER_LEN {
             self.flush()?;
             return self.write(report);
         }
         self.unwritten.push_str(report)?;
-        if self.is_terminal || self.unwritten.len() >= BUFFER_LEN {
+        self.end_report()
+    }
+
+    /// Ends the report that is at the end of `unwritten`. Writes the reports so far if there are
+    /// many, or if the output is a terminal.
+    pub(crate) fn end_report(&mut self) -> Result<(), Error> {
+        self.whole = self.unwritten.len();
+        if self.is_terminal || self.whole >= BUFFER_LEN {
             self.flush()?;
         }
         Ok(())
     }
 
-    /// Writes the reports so far. Reports that cannot be written are dropped.
+    /// Writes the whole reports so far. Reports that cannot be written are dropped, and so is a
+    /// part of a report.
     pub(crate) fn flush(&mut self) -> Result<(), Error> {
-        let written = self.write(self.unwritten.as_str());
+        let (reports, _) = cut(self.unwritten.as_str(), self.whole);
+        let written = self.write(reports);
         self.unwritten.clear();
+        self.whole = 0;
         written
     }
 

@@ -6,13 +6,14 @@ use crate::error::Error;
 use crate::explainer::Explainer;
 use crate::options::{Options, Terminal, command, options_of};
 use crate::output::Output;
+use crate::text::first_line;
 use litrs::Literal;
 use litrs_lexer::strip_shebang;
 use std::alloc::AllocError;
 use std::env::VarError;
 use std::fs::File;
 use std::io::{BufRead, BufReader, ErrorKind, Read};
-use std::{env, fmt, str};
+use std::{env, fmt, mem, str};
 
 /// The hint if the name of a missing file is a literal.
 const TEXT_HELP: &str = "help: the argument is a literal: -e explains it";
@@ -164,6 +165,8 @@ impl<'a> Source<'a> {
 struct Run<'a> {
     rt: HostRuntime,
     explainer: Explainer<'a>,
+    /// Set until the first line of a source is explained.
+    is_first_line: bool,
     /// Set if a source was not read to its end.
     has_failed: bool,
     /// Set if the help on `--prefix` was written.
@@ -177,6 +180,7 @@ impl<'a> Run<'a> {
         Run {
             rt,
             explainer: Explainer::new(rt.alloc(), options, output),
+            is_first_line: true,
             has_failed: false,
             was_told: false,
         }
@@ -241,21 +245,51 @@ impl<'a> Run<'a> {
     fn explain_lines<F: Read + Drop>(&mut self, input: F) -> Result<(), Error> {
         let mut reader = BufReader::new(self.rt.alloc(), input).map_err(Error::Input)?;
         let mut line = Vec::new(self.rt.alloc());
-        for number in 0..u64::MAX {
-            line.clear();
-            reader.read_until(b'\n', &mut line).map_err(Error::Input)?;
-            if line.is_empty() {
+        self.is_first_line = true;
+        for _ in 0..u64::MAX {
+            let len = match reader.fill_buf() {
+                Ok(bytes) => self.explain_bytes(&mut line, bytes)?,
+                Err(error) if error.kind() == ErrorKind::Interrupted => continue,
+                Err(error) => return Err(Error::Input(error)),
+            };
+            if len == 0 {
                 break;
             }
-            if number == 0 && self.explainer.reports.options.skips_shebang() {
-                blank_shebang(&mut line);
-            }
-            self.explainer.feed(&line)?;
-            if !line.ends_with(b"\n") {
-                break;
-            }
+            reader.consume(len);
+        }
+        if !line.is_empty() {
+            self.explain_line(&line)?;
         }
         self.explainer.finish()
+    }
+
+    /// Explains the lines that end in `bytes`, the first of them after its beginning in `line`.
+    /// Leaves in `line` the beginning of the next one. Returns the number of bytes.
+    fn explain_bytes(&mut self, line: &mut Vec<u8>, bytes: &[u8]) -> Result<usize, Error> {
+        let mut rest = bytes;
+        while let Some((ending, after)) = first_line(rest) {
+            rest = after;
+            if line.is_empty() {
+                self.explain_line(ending)?;
+            } else {
+                line.extend_from_slice(ending)?;
+                self.explain_line(line)?;
+                line.clear();
+            }
+        }
+        line.extend_from_slice(rest)?;
+        Ok(bytes.len())
+    }
+
+    /// Explains what ends with this line.
+    fn explain_line(&mut self, line: &[u8]) -> Result<(), Error> {
+        let is_first = mem::replace(&mut self.is_first_line, false);
+        if !is_first || !self.explainer.reports.options.skips_shebang() {
+            return self.explainer.feed(line);
+        }
+        let mut line = Vec::from_slice(self.rt.alloc(), line)?;
+        blank_shebang(&mut line);
+        self.explainer.feed(&line)
     }
 
     /// Tells the user why a source was not read to its end, after what was read before it.

@@ -1,5 +1,5 @@
 //! Reports on literals and errors, as text or as JSON.
-ghost use Rattle.std.specs.Prelude.{◌≡◌, ◌≤◌, ◌<◌, ◌↔◌, IfOk, IsTrue, string_bytes};
+ghost use Rattle.std.specs.Prelude.{◌≡◌, ◌≤◌, ◌<◌, ◌↔◌, ◌++◌, OnOk, IsTrue, string_bytes};
 ghost use Rattle.std.specs.Str.{IsCharBoundary};
 ghost use Rattle.litrs.specs.LiteralDerivation.{derivation};
 ghost use Rattle.litrs_explain.specs.Report.{place_text, IsLiteralReport};
@@ -11,8 +11,9 @@ use crate::output::Output;
 use crate::place::{Place, Span};
 use litrs::{Buffer, Literal, ParseErrorKind};
 use litrs_diagnostic::{Color, Diagnostic, Painted, shown, shown_in_color};
-use litrs_explanation::explanation;
+use litrs_explanation::push_explanation;
 use std::alloc::{AllocError, Global};
+use std::fmt::Write;
 
 /// The number of columns of a line that are shown around an error.
 const WIDTH: usize = 100;
@@ -93,19 +94,32 @@ impl<'a> Reports<'a> {
         is_other_text(self.literals, self.errors)
     }
 
-    /// Adds the report on a literal.
+    /// Adds the lines on a literal that begins at `place`.
     pub(crate) fn add_literal<B: Buffer>(
+        &mut self,
+        place: Place,
+        literal: &Literal<B>,
+    ) -> Result<(), Error> {
+        self.literals = self.literals.saturating_add(1);
+        let out = &mut self.output.unwritten;
+        if self.options.color {
+            push_colored_place(self.alloc, out, self.name, place)?;
+        } else {
+            push_place(out, self.name, place)?;
+        }
+        push_literal(out, literal)?;
+        self.output.end_report()
+    }
+
+    /// Adds the JSON object of a literal.
+    pub(crate) fn add_literal_object<B: Buffer>(
         &mut self,
         span: &Span,
         literal: &Literal<B>,
     ) -> Result<(), Error> {
         self.literals = self.literals.saturating_add(1);
-        let report = if self.options.json {
-            literal_object(self.alloc, self.name, span, literal)?
-        } else {
-            self.literal_lines(span.start, literal)?
-        };
-        self.output.add(report.as_str())
+        let object = literal_object(self.alloc, self.name, span, literal)?;
+        self.output.add(object.as_str())
     }
 
     /// Adds the report on an error.
@@ -118,23 +132,6 @@ impl<'a> Reports<'a> {
             self.problem_lines(&problem)?
         };
         self.output.add(report.as_str())
-    }
-
-    /// Returns the lines on a literal for a person.
-    fn literal_lines<B: Buffer>(
-        &self,
-        place: Place,
-        literal: &Literal<B>,
-    ) -> Result<String, AllocError> {
-        let mut place = place_text(self.alloc, self.name, place)?;
-        if self.options.color {
-            let painted = Painted {
-                color: Color::Green,
-                text: place.as_str(),
-            };
-            place = format!(in self.alloc; "{painted}")?;
-        }
-        literal_report(self.alloc, place.as_str(), literal)
     }
 
     /// Returns the lines on an error for a person.
@@ -156,25 +153,42 @@ impl<'a> Reports<'a> {
     }
 }
 
-/// Returns the name of a file, and a line and a column in it.
-fn place_text(alloc: Global, name: &str, place: Place) -> Result<String, AllocError>
-    ensures { IfOk result (λ text. string_bytes text ≡ place_text name.now place) }
+/// Appends the name of a file, and a line and a column in it.
+fn push_place(out: &mut String, name: &str, place: Place) -> Result<(), AllocError>
+    ensures { OnOk result (string_bytes out.new
+        ≡ string_bytes out.old ++ place_text name.now place) }
 {
-    let Place { line, column } = place;
-    format!(in alloc; "{name}:{line}:{column}:")
+    out.push_str(name)?;
+    out.push(':')?;
+    out.push_str(itoa::Buffer::new().format(place.line))?;
+    out.push(':')?;
+    out.push_str(itoa::Buffer::new().format(place.column))?;
+    out.push(':')
 }
 
-/// Returns the explanation of a literal, after the place where it begins.
-fn literal_report<B: Buffer>(
+/// Like [`push_place`], in color.
+fn push_colored_place(
     alloc: Global,
-    place: &str,
-    literal: &Literal<B>,
-) -> Result<String, AllocError>
-    ensures { IfOk result (λ report.
-        IsLiteralReport place.now (derivation literal.now) (string_bytes report)) }
+    out: &mut String,
+    name: &str,
+    place: Place,
+) -> Result<(), AllocError> {
+    let mut text = String::new(alloc);
+    push_place(&mut text, name, place)?;
+    let painted = Painted {
+        color: Color::Green,
+        text: text.as_str(),
+    };
+    write!(out, "{painted}")
+}
+
+/// Appends the explanation of a literal, after a blank.
+fn push_literal<B: Buffer>(out: &mut String, literal: &Literal<B>) -> Result<(), AllocError>
+    ensures { OnOk result (IsLiteralReport (string_bytes out.old) (derivation literal.now)
+        (string_bytes out.new)) }
 {
-    let lines = explanation(alloc, literal)?;
-    format!(in alloc; "{place} {lines}")
+    out.push_str(" ")?;
+    push_explanation(out, literal)
 }
 
 /// Returns the last line on an error.
