@@ -1,2 +1,2 @@
--- digits in groups
-pub mod Groups
+-- raw literals stay raw, and others do not become raw
+pub mod Raw

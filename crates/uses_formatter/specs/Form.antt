@@ -1,30 +1,39 @@
 -- The one form of each literal.
-use Rattle.std.specs.Prelude.{◌≡◌, ℕ, List, if◌then◌else◌}
-use Rattle.std.specs.List.{list_any}
-use Rattle.litrs.specs.declared.IntegerBase.{IntegerBase}
-use Rattle.litrs.specs.declared.IntegerBase.TheVariants.{Decimal}
-use Rattle.litrs.specs.Digits.{digits_of}
-use Rattle.litrs.specs.Float.{is_underscore}
-use Rattle.litrs.specs.Integer.{IntegerParts}
-use Rattle.litrs.specs.Literal.{Derivation, an_integer, IsLiteral, suffix_of}
-use Rattle.litrs_build.specs.BuiltInteger.{built_integer}
+use Rattle.std.specs.Prelude.{◌≡◌, ℕ, Bool, false, List, Some, if◌then◌else◌}
+use Rattle.litrs.specs.Literal.{Derivation, a_string, a_byte_string, a_c_string, IsLiteral, suffix_of}
+use Rattle.litrs.specs.Strings.{is_raw}
+use Rattle.litrs_build.specs.Rewriting.{rewritten}
 use Rattle.litrs_build.specs.WrittenAnew.{HaveSameValue, unescaped}
+use Rattle.litrs_build.specs.declared.style.Case.TheVariants.{Lower}
+use Rattle.litrs_build.specs.declared.style.Escapes.TheVariants.{Needed}
+use Rattle.litrs_build.specs.declared.style.FloatGroups.TheVariants.{Regrouped as floats_regrouped}
+use Rattle.litrs_build.specs.declared.style.Groups.TheVariants.{Regrouped}
+use Rattle.litrs_build.specs.declared.style.Lines.TheVariants.{Kept}
+use Rattle.litrs_build.specs.declared.style.Style.{Style}
 
--- how many digits of the base make a group
-abbrev pub group_len : IntegerBase → ℕ
-group_len Decimal = 3
-group_len _ = 4
+-- `true` iff the literal is a raw string, byte string or C string.
+abbrev pub is_raw_literal : Derivation → Bool
+is_raw_literal (a_string d) = is_raw d
+is_raw_literal (a_byte_string d) = is_raw d
+is_raw_literal (a_c_string d) = is_raw d
+is_raw_literal _ = false
 
--- The number of digits in a group of an integer, or 0 if its main part has no `_`.
-abbrev pub group_of : IntegerParts → ℕ
-group_of d = if list_any is_underscore d.main then group_len d.base else 0
+-- The style of literals that are not raw: only the escapes that are needed, letters in lower case,
+-- and groups in numbers that contain `_`.
+abbrev pub style : Style
+style = record {
+  escapes = Needed;
+  escape_digits = Lower;
+  lines = Kept;
+  digits = Some Lower;
+  groups = Regrouped (record { binary = 4; octal = 4; decimal = 3; hexadecimal = 4 });
+  exponents = Some Lower;
+  float_groups = floats_regrouped (record { integer = 3; fraction = 3; exponent = 3 });
+}
 
--- the literal that is written for a literal: an integer in groups, any other as it is built of its
--- value
+-- The literal that is written for a literal. A raw one has the least number of hashes.
 abbrev pub form : Derivation → Derivation
-form (an_integer d) =
-    an_integer (built_integer d.base (group_of d) (digits_of d.main) d.suffix)
-form d = unescaped d
+form d = if is_raw_literal d then unescaped d else rewritten style d
 
 -- The text is the form of the literal. It has its kind, its value and its suffix, and is its own
 -- form.
@@ -34,6 +43,6 @@ pub record IsFormOf (d : Derivation) (t : List ℕ) : Type 0 where
   pub suffix : suffix_of (form d) ≡ suffix_of d
   pub again : form (form d) ≡ form d
 
--- the text before is a literal, and the text after is its form
+-- The text before is a literal, and the text after is its form.
 abbrev pub IsForm : (before after : List ℕ) → Type 0
 IsForm before after = (d : Derivation) × IsLiteral before d × IsFormOf d after

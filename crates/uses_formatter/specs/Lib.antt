@@ -1,2 +1,2 @@
--- which literal is written for a literal
+-- the literal that is written for a literal
 pub mod Form

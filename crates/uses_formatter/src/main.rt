@@ -1,31 +1,30 @@
 //! Writes each line that is a literal in a standard form, with the same kind, value and suffix.
 //! Other lines are unchanged.
 //!
-//! Digits of integers are in lower case. If they have a `_`, they are written in groups of three,
-//! or of four if the base is not ten. Other literals are written as [`litrs_build::unescaped`]
-//! writes them: with escapes only for characters that are not shown as they are, and raw strings
-//! with the least number of hashes.
+//! Raw strings have the least number of hashes. Other literals are rewritten in one [`Style`]: with
+//! escapes only for characters that are not shown as they are, digits and exponents in lower case,
+//! and numbers that contain `_` in groups of three digits, or of four if the base is not ten.
 #![tactic(auto)]
 
-ghost use Rattle.std.specs.Prelude.{◌≡◌, IfOk, MatchOption};
-ghost use Rattle.std.specs.List.{list_any};
+ghost use Rattle.std.specs.Prelude.{◌≡◌, IfOk, IsTrue, IsFalse, MatchOption, string_bytes};
 ghost use Rattle.std.specs.Str.{chars};
 ghost use Rattle.litrs.specs.Derivations.{HasNoDerivation};
-ghost use Rattle.litrs.specs.Float.{is_underscore};
-ghost use Rattle.litrs.specs.IntegerLiteral.{integer_parts};
-ghost use Rattle.litrs.specs.Literal.{IsLiteral, an_integer};
-ghost use Rattle.litrs.specs.LiteralDerivation.{derivation, literal_raw};
-ghost use Rattle.uses_formatter.specs.Form.{group_len, group_of, IsForm, IsFormOf};
+ghost use Rattle.litrs.specs.Literal.{IsLiteral};
+ghost use Rattle.litrs.specs.LiteralDerivation.{derivation};
+ghost use Rattle.uses_formatter.specs.Form.{is_raw_literal, style, IsForm, IsFormOf};
 
-use litrs::{IntegerBase, IntegerLit, Literal, ParseErrorKind};
-use litrs_build::{regroup, unescaped};
+use litrs::{Literal, ParseErrorKind};
+use litrs_build::{
+    Case, Escapes, FloatGroupLens, FloatGroups, GroupLens, Groups, Lines, Style, rewritten,
+    unescaped,
+};
 use std::alloc::{AllocError, Global};
 
 fn main(rt: HostRuntime) -> anyhow::Result<()> {
     for line in rt.lines(rt.alloc()) {
         let line = line?;
         match formatted(rt.alloc(), line.as_str())? {
-            Some(lit) => println!(rt; "{lit}")?,
+            Some(text) => println!(rt; "{text}")?,
             None => println!(rt; "{line}")?,
         }
     }
@@ -33,10 +32,10 @@ fn main(rt: HostRuntime) -> anyhow::Result<()> {
 }
 
 /// Returns the literal `text` in the standard form, or `None` if `text` is not a literal.
-pub fn formatted(alloc: Global, text: &str) -> Result<Option<Literal<String>>, AllocError>
+pub fn formatted(alloc: Global, text: &str) -> Result<Option<String>, AllocError>
     ensures { IfOk result (λ form. MatchOption form
         (HasNoDerivation (IsLiteral (chars text.now)))
-        (λ lit. IsForm (chars text.now) (chars (literal_raw lit)))) }
+        (λ written. IsForm (chars text.now) (chars (string_bytes written)))) }
 {
     match &Literal::parse(alloc, text) {
         Ok(lit) => {
@@ -50,52 +49,71 @@ pub fn formatted(alloc: Global, text: &str) -> Result<Option<Literal<String>>, A
     }
 }
 
-/// Returns `lit` in the standard form.
-fn written(alloc: Global, lit: &Literal<&str>) -> Result<Literal<String>, AllocError>
+/// Returns the text of `lit` in the standard form.
+fn written(alloc: Global, lit: &Literal<&str>) -> Result<String, AllocError>
     ensures { IfOk result (λ written.
-        IsFormOf (derivation lit.now) (chars (literal_raw written))) }
+        IsFormOf (derivation lit.now) (chars (string_bytes written))) }
+{
+    if is_raw(lit) {
+        written_anew(alloc, lit)
+    } else {
+        written_in_style(alloc, lit)
+    }
+}
+
+/// Returns the text of `lit`, which is raw, with the least number of hashes.
+fn written_anew(alloc: Global, lit: &Literal<&str>) -> Result<String, AllocError>
+    requires { IsTrue (is_raw_literal (derivation lit.now)) }
+    ensures { IfOk result (λ written.
+        IsFormOf (derivation lit.now) (chars (string_bytes written))) }
+{
+    let anew = unescaped(alloc, lit)?;
+    let text = String::from_str(alloc, anew.raw_input())?;
+    Ok(text)
+}
+
+/// Returns the text of `lit`, which is not raw, in the style.
+fn written_in_style(alloc: Global, lit: &Literal<&str>) -> Result<String, AllocError>
+    requires { IsFalse (is_raw_literal (derivation lit.now)) }
+    ensures { IfOk result (λ written.
+        IsFormOf (derivation lit.now) (chars (string_bytes written))) }
+{
+    let text = rewritten(alloc, lit, &style())?;
+    Ok(text)
+}
+
+/// Returns `true` if `lit` is a raw string, byte string or C string.
+fn is_raw(lit: &Literal<&str>) -> bool
+    ensures { result ≡ is_raw_literal (derivation lit.now) }
 {
     match lit {
-        Literal::Integer(lit) => regrouped(alloc, lit),
-        _ => unescaped(alloc, lit),
+        Literal::String(lit) => lit.is_raw_string(),
+        Literal::ByteString(lit) => lit.is_raw_byte_string(),
+        Literal::CString(lit) => lit.is_raw_c_string(),
+        _ => false,
     }
 }
 
-/// Returns the integer with its digits in groups, if it has groups.
-fn regrouped(alloc: Global, lit: &IntegerLit<&str>) -> Result<Literal<String>, AllocError>
-    ensures { IfOk result (λ written.
-        IsFormOf (an_integer (integer_parts lit.now)) (chars (literal_raw written))) }
+/// Returns the style of literals that are not raw.
+fn style() -> Style
+    ensures { result ≡ style }
 {
-    // Called for its contract: the parts are those of an integer.
-    let _ = lit.raw_input();
-    let regrouped = regroup(alloc, lit, group_of(lit))?;
-    Ok(Literal::Integer(regrouped))
-}
-
-/// Returns the number of digits in a group, or 0 if the digits are not in groups.
-fn group_of(lit: &IntegerLit<&str>) -> usize
-    ensures { result ≡ group_of (integer_parts lit.now) }
-{
-    if has_underscore(lit.raw_main_part()) {
-        group_len(lit.base())
-    } else {
-        0
+    Style {
+        escapes: Escapes::Needed,
+        escape_digits: Case::Lower,
+        lines: Lines::Kept,
+        digits: Some(Case::Lower),
+        groups: Groups::Regrouped(GroupLens {
+            binary: 4,
+            octal: 4,
+            decimal: 3,
+            hexadecimal: 4,
+        }),
+        exponents: Some(Case::Lower),
+        float_groups: FloatGroups::Regrouped(FloatGroupLens {
+            integer: 3,
+            fraction: 3,
+            exponent: 3,
+        }),
     }
-}
-
-/// Returns the number of digits in a group in `base`.
-fn group_len(base: IntegerBase) -> usize
-    ensures { result ≡ group_len base }
-{
-    match base {
-        IntegerBase::Decimal => 3,
-        IntegerBase::Binary | IntegerBase::Octal | IntegerBase::Hexadecimal => 4,
-    }
-}
-
-/// Returns `true` if `main` contains `_`.
-fn has_underscore(main: &str) -> bool
-    ensures { result ≡ list_any is_underscore (chars main.now) }
-{
-    main.chars().any(|c| c == '_')
 }
