@@ -72,17 +72,10 @@ fn cut_any_number(input: &str) -> Result<NumberCut, ParseError>
         (IsRefused (kind_parse (number_kind (chars input.now))) (chars input.now)) }
 {
     let cut = cut_digits(input);
-    // Each `match` makes the result in place, without a conversion of the error.
     if begins_float(&cut, input.as_bytes()) {
-        match cut_float_at(input, cut.end_main) {
-            Ok(cut) => Ok(NumberCut::Float(cut)),
-            Err(e) => Err(e),
-        }
+        Ok(NumberCut::Float(cut_float_at(input, cut.end_main)?))
     } else {
-        match cut_integer_at(input, cut) {
-            Ok(cut) => Ok(NumberCut::Integer(cut)),
-            Err(e) => Err(e),
-        }
+        Ok(NumberCut::Integer(cut_integer_at(input, cut)?))
     }
 }
 

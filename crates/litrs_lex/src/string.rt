@@ -170,10 +170,8 @@ fn finished<C: EscapeContainer, A: Allows>(
     if value.len() == place - offset {
         return Ok((None, place + 1));
     }
-    match container_for(alloc, value.len(), allowed) {
-        Ok(made) => Ok((Some(copied(made, value)), place + 1)),
-        Err(e) => Err(e),
-    }
+    let made = container_for(alloc, value.len(), allowed)?;
+    Ok((Some(copied(made, value)), place + 1))
 }
 
 /// Like [`read_value`], from the state `from` on, with a larger room. The value up to there is
@@ -224,13 +222,11 @@ fn read_twice<C: EscapeContainer, A: Allows>(
             if counted.len == place - offset {
                 return Ok((None, place + 1));
             }
-            match container_for(alloc, counted.len, allowed) {
-                Ok(made) => Ok((
-                    Some(fill_container(input, offset, from, allowed, value, made)),
-                    place + 1,
-                )),
-                Err(e) => Err(e),
-            }
+            let made = container_for(alloc, counted.len, allowed)?;
+            Ok((
+                Some(fill_container(input, offset, from, allowed, value, made)),
+                place + 1,
+            ))
         }
         Reached::Full(_) => unreachable!(),
         Reached::Refused(_, e) => Err(e),

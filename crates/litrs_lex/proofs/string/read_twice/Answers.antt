@@ -1,5 +1,6 @@
 -- The rest is counted from the state on, and then put after what the room had.
 use Rattle.std.proofs.Common.{◌<◌, ◌^◌, length, arith, inl, inr}
+use Rattle.std.proofs.lemmas.Result.{err_from_is_err_and}
 use Rattle.litrs_lex.proofs.Readings.{none_longer}
 use Rattle.litrs_lex.proofs.QuotedCuts.{from_offset}
 use Rattle.litrs_lex.proofs.QuotedValues.{none_of, some_of, no_memory_of, within_of}
@@ -13,15 +14,16 @@ returns-then-counted-place g c =
     let body = c.in-Quote.ensures.reached in
     none_of _ c.args.input.now _ _ _ _ c.utf8.input c.requires.at body body.read.held c.in_ok-check_after_quote-in-Quote.ensures.ok c.if-counted-place.true
 
-pub returns-in-Ok : goal.returns-in-Ok
-returns-in-Ok g c =
+pub returns-in_ok-made-in-Quote : goal.returns-in_ok-made-in-Quote
+returns-in_ok-made-in-Quote g c =
     let body = c.in-Quote.ensures.reached in
     some_of _ c.args.input.now _ _ _ _ c.utf8.input c.requires.at body body.read.held c.in_ok-check_after_quote-in-Quote.ensures.ok c.if-counted-place.false _ c.fill_container.ensures
 
-pub returns-in-Err : goal.returns-in-Err
-returns-in-Err g c =
+pub returns-in_err-made-in-Quote : goal.returns-in_err-made-in-Quote
+returns-in_err-made-in-Quote g c =
     let body = c.in-Quote.ensures.reached in
-    inr (no_memory_of _ c.args.input.now _ _ _ _ _ c.utf8.input c.requires.at body body.read.held c.in_ok-check_after_quote-in-Quote.ensures.ok c.if-counted-place.false c.in-Err.ensures.error)
+    let p = err_from_is_err_and c.from_residual-in_err-made-in-Quote.result c.from_residual-in_err-made-in-Quote.ensures.1 in
+    rw (p.1, p.2) (inr (no_memory_of _ c.args.input.now _ _ _ _ _ c.utf8.input c.requires.at body body.read.held c.in_ok-check_after_quote-in-Quote.ensures.ok c.if-counted-place.false c.in_err-made-in-Quote.ensures.error))
 
 pub returns-in-Refused : goal.returns-in-Refused
 returns-in-Refused g c = inl c.in-Refused.ensures.reached.1
@@ -29,7 +31,7 @@ returns-in-Refused g c = inl c.in-Refused.ensures.reached.1
 pub fill_container-requires-clause-room : goal.fill_container-requires-clause-room
 fill_container-requires-clause-room g c =
     let body = c.in-Quote.ensures.reached in
-    within_of _ c.args.input.now _ _ _ _ _ _ c.utf8.input c.requires.at body body.read.held c.in_ok-check_after_quote-in-Quote.ensures.ok c.in-Ok.ensures.room
+    within_of _ c.args.input.now _ _ _ _ _ _ c.utf8.input c.requires.at body body.read.held c.in_ok-check_after_quote-in-Quote.ensures.ok c.in_ok-made-in-Quote.ensures.room
 
 pub unreachable-requires : goal.unreachable-requires
 unreachable-requires g c = none_longer _ c.args.input.now _ (let small : length c.args.input.now < 2 ^ 64 = omega arith in small) c.in-Full.ensures.reached.1
