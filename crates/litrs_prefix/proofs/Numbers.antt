@@ -17,7 +17,7 @@ use Rattle.litrs_grammar.specs.Integer.{IntegerParts, IsInteger, IsIntegerOf, is
 use Rattle.litrs_grammar.specs.Float.{FloatParts, IsFloatOf, float_text, fraction_text, is_period, is_exponent, is_float_form, is_decimal_char, is_decimal_literal}
 use Rattle.litrs_grammar.proofs.Laws.Integer.{cut_with, integer_cut-is, take_while_front, prefix_len_front}
 use Rattle.litrs_grammar.proofs.Laws.Float.{float_is_cut, suffix_no_period}
-use Rattle.litrs_grammar.proofs.FloatCuts.{IsCut, same_cut, after_decimals}
+use Rattle.litrs_grammar.proofs.FloatCuts.{IsCut, after_decimals}
 use Rattle.litrs_prefix.specs.Prefix.{ends_suffix, ends_integer, ends_float, is_bare, gives_period}
 use Rattle.litrs_prefix.proofs.Suffixes.{same_suffix}
 
@@ -156,18 +156,6 @@ longer_float d s r h =
     ap (λ (l : List ℕ). l ++ r) (sym h.spells)
     ∙ (append_assoc d.integer (f ++ (d.exponent ++ d.suffix)) r
     ∙ ap (λ (l : List ℕ). d.integer ++ l) (append_assoc f (d.exponent ++ d.suffix) r ∙ ap (λ (l : List ℕ). f ++ l) (append_assoc d.exponent d.suffix r)))
-
-pub same_float : (s t r u : List ℕ) (d e : FloatParts) → IsFloatOf s d → IsFloatOf t e →
-    ends_suffix d.suffix r ≡ true → ends_float d r ≡ true → ends_suffix e.suffix u ≡ true → ends_float e u ≡ true → s ++ r ≡ t ++ u → (d ≡ e) × (r ≡ u)
-same_float s t r u d e h g f i k j same =
-    let cuts : with_rest d r ≡ with_rest e u = same_cut (with_rest d r) (with_rest e u) (float_cut_stays d s r h f i) (float_cut_stays e t u g k j)
-    (sym (longer_float d s r h) ∙ (same ∙ longer_float e t u g)) in
-    let integers : d.integer ≡ e.integer = ap (λ (p : FloatParts). p.integer) cuts in
-    let fractions : d.fraction ≡ e.fraction = ap (λ (p : FloatParts). p.fraction) cuts in
-    let exponents : d.exponent ≡ e.exponent = ap (λ (p : FloatParts). p.exponent) cuts in
-    let tails : d.suffix ++ r ≡ e.suffix ++ u = ap (λ (p : FloatParts). p.suffix) cuts in
-    let ends = same_suffix d.suffix e.suffix r u h.grammar.suffix g.grammar.suffix f k tails in
-    (λ v. record { integer = integers v; fraction = fractions v; exponent = exponents v; suffix = ends.0 v }, ends.1)
 
 -- What follows the decimal digits decides which of the two it is: `e` or `E`, or a period that an integer would take.
 abbrev pub is_mark : List ℕ → Bool

@@ -2,8 +2,6 @@
 use Rattle.std.specs.Prelude.{◌≡◌, ℕ, List, [], ◌∷◌, ◌++◌, IsTrue}
 use Rattle.litrs_base.specs.Text.{IsText}
 use Rattle.litrs_grammar.specs.Suffix.{is_suffix}
-use Rattle.litrs_base.specs.declared.quotes.Switches.{Switches}
-use Rattle.litrs_grammar.specs.Quoted.{QuotedParts, IsQuoted}
 use Rattle.litrs_grammar.specs.Literal.{Derivation, IsLiteral}
 use Rattle.litrs_base.specs.Refusal.{refusal_of}
 use Rattle.litrs_prefix.specs.declared.MalformedPrefix.{MalformedPrefix}
@@ -25,13 +23,6 @@ PrefixesStay = (t : List ℕ) (d : Derivation) (c : ℕ) (rest more : List ℕ) 
 abbrev pub SuffixesAreUnique : Type 0
 SuffixesAreUnique = (s x r y : List ℕ) → IsTrue (is_suffix s) → IsTrue (is_suffix x) →
     IsTrue (ends_suffix s r) → IsTrue (ends_suffix x y) → s ++ r ≡ x ++ y → (s ≡ x) × (r ≡ y)
-
--- A text is in only one way a quoted literal after a front and a rest before which it ends.
-abbrev pub QuotedAreUnique : Type 0
-QuotedAreUnique = (front : List ℕ) (w : Switches) (s t r u : List ℕ) (p q : QuotedParts) →
-    IsQuoted front w s p → IsQuoted front w t q →
-    IsTrue (ends_suffix p.suffix r) → IsTrue (ends_suffix q.suffix u) →
-    s ++ r ≡ t ++ u → (p ≡ q) × (r ≡ u)
 
 -- A text has at most one literal at its front.
 abbrev pub PrefixesAreUnique : Type 0

@@ -1,5 +1,5 @@
 -- The cut decides.
-use Rattle.std.proofs.Common.{◌≡◌, List, ℕ, true, [], ◌++◌, drop, length, refl, sym, ap, ◌∙◌}
+use Rattle.std.proofs.Common.{◌≡◌, List, ℕ, true, ◌++◌, drop, length, sym, ap, ◌∙◌}
 use Rattle.std.specs.Str.{chars, IsUtf8}
 use Rattle.litrs_base.specs.Text.{begins_with}
 use Rattle.litrs_base.specs.declared.quotes.Switches.{Switches}
@@ -7,11 +7,10 @@ use Rattle.litrs_base.specs.declared.quotes.StringKind.{StringKind}
 use Rattle.litrs_base.specs.Quotes.{raw_front}
 use Rattle.litrs_base.proofs.Begins.{begins_with-split}
 use Rattle.litrs_grammar.specs.Raw.{RawParts, raw_refusal, has_unicode, allows_nul, IsRawOf, IsRawLiteral}
-use Rattle.litrs_grammar.proofs.RawKinds.{literal_refusal_free}
+use Rattle.litrs_grammar.proofs.RawKinds.{literal_refusal_free, only_raw_literal}
 use Rattle.litrs_lex.specs.RawCut.{raw_parts_at}
 use Rattle.litrs_lex.proofs.StringFronts.{raw_boundary, raw_begins, raw_after}
 use Rattle.litrs_prefix.specs.Prefix.{ends_suffix}
-use Rattle.litrs_prefix.proofs.Chars.{same_raw}
 use Rattle.litrs_prefix.proofs.Judged.{by_only}
 use Rattle.litrs_prefix.proofs.piece.raw_follows.Goals as goal
 
@@ -37,7 +36,7 @@ returns-in-Ok c =
     let parts = raw_parts_at (length (raw_front kind)) text (c.in-Ok.field-0-0, c.in-Ok.start) in
     let whole : IsRawLiteral kind (chars text) parts = raw_whole kind text parts c.utf8.front c.requires front is.only.0 in
     by_only (IsRawLiteral kind (chars text)) (λ d. ends_suffix d.suffix rest) parts c.ends_suffix.result
-    (whole, λ e h. (same_raw kind (chars text) (chars text) [] [] e parts h whole refl refl refl).0)
+    (whole, λ e h. (only_raw_literal (chars text) kind kind e parts h whole).1)
     (ap (λ (l : List ℕ). ends_suffix (chars l) rest) (sym c.range_from.ensures.value) ∙ sym c.ends_suffix.ensures)
 
 pub returns-in-Err : goal.returns-in-Err
