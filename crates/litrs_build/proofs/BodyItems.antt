@@ -1,6 +1,6 @@
 -- The item at the front of a text, by its first bytes.
-use Rattle.std.proofs.Common.{◌≡◌, ℕ, suc, ◌+◌, ◌<◌, ◌≤◌, Bool, true, false, not, ◌||◌, List, [], ◌∷◌, ◌++◌, length, drop, get_or, cond, refl, sym, ap, ◌∙◌, subst, arith}
-use Rattle.std.specs.Prelude.{◌==◌, encode_utf8_all}
+use Rattle.std.proofs.Common.{◌≡◌, ℕ, ◌+◌, ◌<◌, Bool, true, false, not, ◌||◌, List, [], ◌∷◌, ◌++◌, length, drop, get_or, cond, refl, sym, ap, ◌∙◌, subst, arith}
+use Rattle.std.specs.Prelude.{◌==◌}
 use Rattle.std.specs.Char.{encode_utf8, len_utf8}
 use Rattle.std.specs.List.{list_all, prefix_len}
 use Rattle.std.specs.Str.{chars, IsUtf8}
@@ -21,9 +21,8 @@ use Rattle.litrs_lex.specs.Unescaped.{IsUnescaped}
 use Rattle.litrs_lex.proofs.AsciiTests.{only_char}
 use Rattle.litrs_lex.proofs.EscapeEnds.{slash_byte, slash_chars, starts_escape}
 use Rattle.litrs_lex.proofs.QuotedBytes.{blank_ascii}
-use Rattle.litrs_build.specs.BodyItem.{BeginsWithItem, IsItemRead, IsLetterOf, Reads, is_any_item}
+use Rattle.litrs_build.specs.BodyItem.{BeginsWithItem, IsItemRead, IsLetterOf, is_any_item}
 use Rattle.litrs_build.specs.Rewriting.{own_spelling}
-use Rattle.litrs_build.specs.declared.body_item.BodyItem.{BodyItem}
 use Rattle.litrs_build.specs.declared.body_item.BodyItem.TheVariants.{Plain, Escape as an_escape, Continuation}
 use Rattle.litrs_build.specs.declared.spelling.Spelling.{Spelling}
 

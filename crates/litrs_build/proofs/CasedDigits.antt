@@ -1,5 +1,5 @@
 -- Hex digits in either case.
-use Rattle.std.proofs.Common.{◌≡◌, ℕ, zero, suc, ◌+◌, ◌*◌, ◌/◌, ◌%◌, ◌^◌, ◌≤◌, ◌<◌, Bool, true, false, eqb, cond, List, [], ◌∷◌, length, map, refl, sym, ap, ◌∙◌, arith}
+use Rattle.std.proofs.Common.{◌≡◌, ℕ, zero, suc, ◌/◌, ◌%◌, ◌^◌, ◌<◌, Bool, true, false, eqb, cond, List, [], ◌∷◌, length, map, refl, ap, ◌∙◌, arith}
 use Rattle.std.specs.Prelude.{count_by, nat_le}
 use Rattle.std.specs.Char.{digit_value, is_ascii_hexdigit, to_ascii_uppercase}
 use Rattle.std.specs.Fmt.{digits, digits_onto, digit_glyph}
@@ -13,7 +13,7 @@ use Rattle.std.proofs.lemmas.List.Sums.{count_by-le-length}
 use Rattle.std.proofs.lemmas.Str.{digit_value-digit_char}
 use Rattle.litrs_base.specs.Numeral.{place_sum, is_no_underscore, numeral}
 use Rattle.litrs_base.specs.Text.{first_passes}
-use Rattle.litrs_build.proofs.HexDigits.{hex_glyphs, glyph_passes, digits_pass, digits_begin, digits-numeral, digits_count, first_from, place_after, filter_kept, length_digits}
+use Rattle.litrs_build.proofs.HexDigits.{hex_glyphs, glyph_passes, digits_pass, digits_count, first_from, place_after, filter_kept, length_digits}
 
 -- a digit in upper case is that in lower case, in upper case
 glyph_upper : (d : ℕ) → d < 16 → digit_glyph true d ≡ to_ascii_uppercase (digit_glyph false d)

@@ -1,9 +1,9 @@
 -- An integer that is rewritten: it is an integer with the same value.
-use Rattle.std.proofs.Common.{◌≡◌, ℕ, suc, ◌+◌, ◌<◌, Bool, true, false, cond, eqb, List, [], ◌∷◌, ◌++◌, map, length, refl, sym, ap, ◌∙◌, subst, arith, inl, inr}
+use Rattle.std.proofs.Common.{◌≡◌, ℕ, ◌<◌, Bool, true, false, cond, eqb, List, [], ◌∷◌, ◌++◌, map, length, refl, sym, ap, ◌∙◌, subst, arith, inl, inr}
 use Rattle.std.specs.Prelude.{◌==◌, filter, Option, Some, None, if◌then◌else◌}
 use Rattle.std.specs.Char.{is_ascii_digit, to_ascii_lowercase}
 use Rattle.std.specs.List.{list_all, list_any}
-use Rattle.std.specs.Str.{chars, IsUtf8, IsAscii}
+use Rattle.std.specs.Str.{chars, IsAscii}
 use Rattle.std.proofs.lemmas.Bool.{and_from, and_parts, or_left, or_right, or_cases, eqb-true, cases_eq, ne_eqb, not_from_false, true≢false}
 use Rattle.std.proofs.lemmas.Bool.Decides.{nat_tests}
 use Rattle.std.proofs.lemmas.List.{length-map, append_assoc, append-nil}
@@ -18,7 +18,7 @@ use Rattle.litrs_base.proofs.Chars.{ascii_by_test}
 use Rattle.litrs_grammar.specs.Integer.{IntegerParts, IsInteger, integer_text, integer_value, has_prefix}
 use Rattle.litrs.specs.Digits.{digits_of, HaveSameDigits}
 use Rattle.litrs.proofs.WrittenParts.{numeral_stays}
-use Rattle.litrs_build.specs.BuiltInteger.{built_integer, main_part, is_integer_suffix, needs_separator}
+use Rattle.litrs_build.specs.BuiltInteger.{built_integer, is_integer_suffix, needs_separator}
 use Rattle.litrs_build.specs.RewrittenInteger.{cased, rewritten_main, rewritten_integer, group_of}
 use Rattle.litrs_build.specs.WrittenDigits.{ends_group, grouped}
 use Rattle.litrs_build.specs.declared.style.Style.{Style}

@@ -1,22 +1,20 @@
 -- Spellings with hex digits in either case: each is an item with the value that it is of.
-use Rattle.std.proofs.Common.{◌≡◌, ℕ, ◌/◌, ◌%◌, ◌+◌, ◌*◌, ◌<◌, ◌^◌, Bool, true, false, not, ◌&&◌, ◌||◌, eqb, List, [], ◌∷◌, ◌++◌, refl, sym, ap, ◌∙◌, subst, arith, inl, inr}
+use Rattle.std.proofs.Common.{◌≡◌, ℕ, ◌/◌, ◌%◌, ◌<◌, Bool, true, false, List, [], ◌∷◌, ◌++◌, refl, sym, ap, ◌∙◌, subst, arith, inl, inr}
 use Rattle.std.specs.Char.{digit_value, is_ascii_hexdigit, encode_utf8}
 use Rattle.std.specs.Fmt.{digits, digit_glyph}
 use Rattle.std.specs.List.{list_all}
 use Rattle.std.specs.Prelude.{encode_utf8_all}
-use Rattle.std.proofs.lemmas.Bool.{and_from, and_parts, cond_both, or_right, eqb-true, ltb-true, lt-ltb, true≢false}
+use Rattle.std.proofs.lemmas.Bool.{and_from, and_parts, cond_both, or_right, ltb-true, lt-ltb, true≢false}
 use Rattle.std.proofs.lemmas.Bool.Decides.{nat_tests}
 use Rattle.std.proofs.lemmas.List.{append_assoc}
 use Rattle.std.proofs.lemmas.Str.{encode_ascii}
 use lib.Utf8.{scalar, scalars}
-use Rattle.litrs_base.specs.Characters.{is_ascii, is_scalar, is_blank, nul_is_allowed, fits_charset}
-use Rattle.litrs_base.specs.declared.escape.Unescape.{Unescape}
-use Rattle.litrs_base.specs.declared.escape.Unescape.TheVariants.{Byte, Unicode as unicode_value}
+use Rattle.litrs_base.specs.Characters.{is_ascii, is_scalar, is_blank, fits_charset}
 use Rattle.litrs_base.specs.declared.quotes.Switches.{Switches}
 use Rattle.litrs_grammar.specs.Escape.{Escape, simple_escape, hex_escape, unicode_escape, is_escape, is_simple, is_hex_or_underscore, pair_value, hex_value, simple_value, allows_byte, allows_value, escape_value, value_bytes}
-use Rattle.litrs_grammar.specs.Quoted.{Item, plain_item, escape_item, continuation, is_plain, is_item, item_text, item_value, takes_all_blanks}
+use Rattle.litrs_grammar.specs.Quoted.{is_plain, is_item, item_text, item_value, takes_all_blanks}
 use Rattle.litrs_grammar.proofs.Laws.Escape.{by_simple}
-use Rattle.litrs_build.specs.Rewriting.{is_upper, cased_digit, cased_item, own_spelling, needed_spelling, after_blanks, is_mark}
+use Rattle.litrs_build.specs.Rewriting.{is_upper, cased_item, own_spelling, after_blanks}
 use Rattle.litrs_build.specs.Spelling.{char_spelling, spelled_item}
 use Rattle.litrs_build.specs.declared.rewriting.Before.{Before}
 use Rattle.litrs_build.specs.declared.rewriting.Before.TheVariants.{Text, Mark, Continuation}

@@ -1,32 +1,27 @@
 -- The item of a char or a byte that is rewritten: it is one of the kind, with the same value.
-use Rattle.std.proofs.Common.{◌≡◌, ℕ, ◌<◌, Bool, true, false, not, ◌&&◌, ◌||◌, List, [], ◌∷◌, ◌++◌, refl, sym, ap, ◌∙◌, arith}
+use Rattle.std.proofs.Common.{◌≡◌, ℕ, Bool, true, not, ◌&&◌, List, refl, sym, ap, ◌∙◌, arith}
 use Rattle.std.specs.Prelude.{◌==◌}
-use Rattle.std.specs.Char.{encode_utf8}
-use Rattle.std.proofs.lemmas.Bool.{and_from, and_parts, cond_both, or_cases, or_left, or_right, not-true, not_from_false, ltb-true, true≢false}
+use Rattle.std.proofs.lemmas.Bool.{and_parts, cond_both, or_left, or_right, not-true, ltb-true, true≢false}
 use Rattle.std.proofs.lemmas.List.{append-nil}
 use lib.Utf8.{scalar, scalars, low_scalar}
 use Rattle.litrs_base.specs.Characters.{is_ascii, fits_charset}
 use Rattle.litrs_base.specs.Quotes.{char_switches_of}
-use Rattle.litrs_base.specs.declared.escape.Unescape.{Unescape}
-use Rattle.litrs_base.specs.declared.escape.Unescape.TheVariants.{Byte, Unicode as unicode_value}
+use Rattle.litrs_base.specs.declared.escape.Unescape.TheVariants.{Byte}
 use Rattle.litrs_base.specs.declared.quotes.CharKind.{CharKind}
 use Rattle.litrs_base.specs.declared.quotes.CharKind.TheVariants.{Char as char_kind, Byte as byte_kind}
-use Rattle.litrs_base.specs.declared.quotes.Switches.{Switches}
 use Rattle.litrs_grammar.specs.CharByte.{CharItem, plain_char, escaped_char, char_item_text, char_value, is_char_item, is_special_whitespace, allows_char}
 use Rattle.litrs_grammar.specs.Escape.{Escape, simple_escape, hex_escape, unicode_escape, is_escape, is_simple, simple_value, pair_value, hex_value, allows_value, escape_value}
-use Rattle.litrs_grammar.specs.Quoted.{Item, item_text, body_text, takes_all_blanks}
+use Rattle.litrs_grammar.specs.Quoted.{item_text, body_text, takes_all_blanks}
 use Rattle.litrs_build.specs.BodyItem.{is_any_item}
 use Rattle.litrs_build.specs.Rewriting.{needed_char, needed_spelling, own_spelling, item_rewriting, items_of, cased_item, cased_char, char_item_of, as_item, is_upper}
 use Rattle.litrs_build.specs.Spelling.{char_spelling}
 use Rattle.litrs_build.specs.declared.rewriting.Before.TheVariants.{Mark}
 use Rattle.litrs_build.specs.declared.rewriting.Rewriting.{Rewriting}
-use Rattle.litrs_build.specs.declared.rewriting.Rewriting.TheVariants.{Unchanged, Spelled, Removed}
+use Rattle.litrs_build.specs.declared.rewriting.Rewriting.TheVariants.{Unchanged, Spelled}
 use Rattle.litrs_build.specs.declared.spelling.Spelling.{Spelling}
 use Rattle.litrs_build.specs.declared.spelling.Spelling.TheVariants.{Plain, Simple, Hex, Unicode}
 use Rattle.litrs_build.specs.declared.style.Style.{Style}
 use Rattle.litrs_build.specs.declared.style.Case.{Case}
-use Rattle.litrs_build.specs.declared.style.Escapes.{Escapes}
-use Rattle.litrs_build.specs.declared.style.Escapes.TheVariants.{Kept as escapes_kept, Respelled, Needed}
 use Rattle.litrs_build.proofs.CasedSpellings.{Fits, cased_is_item, cased_scalars, cased_pair, number_is, own_fits, char_fits}
 use Rattle.litrs_build.proofs.RewrittenItems.{by_plain, by_escape, simple_low}
 use Rattle.litrs_build.proofs.Spellings.{IsOther, spelling_by}

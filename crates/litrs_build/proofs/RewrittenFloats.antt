@@ -1,10 +1,10 @@
 -- A float that is rewritten: it is a float with the same digits, and stays as it is a second time.
-use Rattle.std.proofs.Common.{◌≡◌, inl, inr, ℕ, Bor, ◌+◌, ◌<◌, ◌≤◌, Bool, true, false, cond, ◌&&◌, ◌||◌, List, [], ◌∷◌, ◌++◌, map, length, take, drop, refl, sym, ap, ◌∙◌, subst, arith}
+use Rattle.std.proofs.Common.{◌≡◌, inl, inr, ℕ, Bor, ◌+◌, ◌<◌, Bool, true, false, ◌&&◌, ◌||◌, List, [], ◌∷◌, ◌++◌, map, length, take, drop, refl, sym, ap, ◌∙◌, subst, arith}
 use Rattle.std.specs.Prelude.{filter, Option, Some, None, IfSome, option_map, if◌then◌else◌, encode_utf8_all}
 use Rattle.std.specs.Char.{is_ascii_digit, to_ascii_lowercase}
 use Rattle.std.specs.List.{list_all, list_any}
 use Rattle.std.specs.Str.{chars, IsUtf8, IsAscii}
-use Rattle.std.proofs.lemmas.Bool.{and_from, and_parts, and_right, or_left, or_right, or_cases, cond_both, true≢false, false≢true}
+use Rattle.std.proofs.lemmas.Bool.{and_from, and_parts, or_left, or_right, or_cases, cond_both, true≢false, false≢true}
 use Rattle.std.proofs.lemmas.Bool.Decides.{nat_tests}
 use Rattle.std.proofs.lemmas.List.{length-map, append_assoc, append-nil, take-append-drop}
 use Rattle.std.proofs.lemmas.List.Elements.{filter-append}
@@ -16,7 +16,7 @@ use Rattle.litrs_base.specs.declared.integer.IntegerBase.TheVariants.{Decimal}
 use Rattle.litrs_base.proofs.Chars.{OnlyAscii}
 use Rattle.litrs_grammar.specs.Float.{FloatParts, IsFloat, float_text, fraction_text, number_part, is_decimal_char, is_decimal_literal, is_exponent, is_exponent_number, is_float_form, is_sign, is_underscore, sign_len}
 use Rattle.litrs_grammar.specs.Integer.{is_e}
-use Rattle.litrs_grammar.proofs.FloatCuts.{IsCut, fraction_passes, is_exponent_front, number_part-suffix}
+use Rattle.litrs_grammar.proofs.FloatCuts.{fraction_passes, is_exponent_front, number_part-suffix}
 use Rattle.litrs_grammar.proofs.Laws.Float.{float_is_cut}
 use Rattle.litrs_grammar.proofs.Spans.Float.{is_number_char, number_part_chars}
 use Rattle.litrs_build.specs.RewrittenFloat.{grouped_after, kept_parts, grouped_parts, part_lens, regrouped, regrouped_fraction, rewritten_exponent, regrouped_float, rewritten_float}
@@ -26,7 +26,6 @@ use Rattle.litrs_build.specs.WrittenDigits.{ends_group, grouped}
 use Rattle.litrs_build.specs.declared.float_style.PartLens.{PartLens}
 use Rattle.litrs_build.specs.declared.style.Case.{Case}
 use Rattle.litrs_build.specs.declared.style.Case.TheVariants.{Lower, Upper}
-use Rattle.litrs_build.specs.declared.style.FloatGroupLens.{FloatGroupLens}
 use Rattle.litrs_build.specs.declared.style.FloatGroups.{FloatGroups}
 use Rattle.litrs_build.specs.declared.style.FloatGroups.TheVariants.{Kept, Regrouped, Grouped}
 use Rattle.litrs_build.specs.declared.style.Style.{Style}

@@ -1,23 +1,21 @@
 -- The items of a body that is rewritten: they are a body with the same value.
-use Rattle.std.proofs.Common.{◌≡◌, ℕ, ◌<◌, ◌≤◌, Bool, true, false, not, ◌&&◌, ◌||◌, List, [], ◌∷◌, ◌++◌, refl, sym, ap, ◌∙◌, subst, arith}
+use Rattle.std.proofs.Common.{◌≡◌, ℕ, ◌<◌, Bool, true, false, List, [], ◌∷◌, ◌++◌, refl, sym, ap, ◌∙◌, arith}
 use Rattle.std.specs.Prelude.{◌==◌}
 use Rattle.std.specs.Char.{encode_utf8}
-use Rattle.std.specs.List.{list_all}
 use Rattle.std.proofs.lemmas.Bool.{and_from, and_parts, cond_both, eqb-true, ltb-true, not-true, not_from_false, or_left, or_right}
 use Rattle.std.proofs.lemmas.Str.{encode_ascii}
 use lib.Utf8.{scalar, scalars, low_scalar}
 use Rattle.litrs_base.specs.Characters.{is_ascii, is_blank, fits_charset}
 use Rattle.litrs_base.specs.Text.{first_passes}
-use Rattle.litrs_base.specs.declared.escape.Unescape.{Unescape}
-use Rattle.litrs_base.specs.declared.escape.Unescape.TheVariants.{Byte, Unicode as unicode_value}
+use Rattle.litrs_base.specs.declared.escape.Unescape.TheVariants.{Byte}
 use Rattle.litrs_base.specs.declared.quotes.Switches.{Switches}
 use Rattle.litrs_grammar.specs.Escape.{Escape, simple_escape, hex_escape, unicode_escape, is_escape, is_simple, simple_value, pair_value, hex_value, allows_byte, allows_value, escape_value, value_bytes}
 use Rattle.litrs_grammar.specs.Quoted.{Item, plain_item, escape_item, continuation, is_plain, is_item, item_text, item_value, body_text, body_value, is_body, takes_all_blanks}
 use Rattle.litrs_grammar.proofs.Laws.Escape.{by_simple}
-use Rattle.litrs_build.specs.Rewriting.{is_mark, after_blanks, needed_char, needed_spelling, own_spelling, plain_rewriting, escape_rewriting, line_feed_rewriting, continuation_rewriting, item_rewriting, items_of, before_next, before_after, rewritten_items, cased_item}
+use Rattle.litrs_build.specs.Rewriting.{is_mark, needed_char, needed_spelling, own_spelling, plain_rewriting, escape_rewriting, line_feed_rewriting, continuation_rewriting, item_rewriting, items_of, before_next, before_after, rewritten_items, cased_item}
 use Rattle.litrs_build.specs.Spelling.{char_spelling}
 use Rattle.litrs_build.specs.declared.rewriting.Before.{Before}
-use Rattle.litrs_build.specs.declared.rewriting.Before.TheVariants.{Text, Mark, Continuation}
+use Rattle.litrs_build.specs.declared.rewriting.Before.TheVariants.{Continuation}
 use Rattle.litrs_build.specs.declared.rewriting.Rewriting.{Rewriting}
 use Rattle.litrs_build.specs.declared.rewriting.Rewriting.TheVariants.{Unchanged, Spelled, Removed}
 use Rattle.litrs_build.specs.declared.spelling.Spelling.{Spelling}
@@ -28,7 +26,7 @@ use Rattle.litrs_build.specs.declared.style.Escapes.{Escapes}
 use Rattle.litrs_build.specs.declared.style.Escapes.TheVariants.{Kept as escapes_kept, Respelled, Needed}
 use Rattle.litrs_build.specs.declared.style.Lines.{Lines}
 use Rattle.litrs_build.specs.declared.style.Lines.TheVariants.{Kept as lines_kept, Joined}
-use Rattle.litrs_build.proofs.CasedSpellings.{Fits, spelling_value, cased_is_item, cased_item_value, cased_free, cased_scalars, own_fits, own_value, char_fits, char_spelling-value, NotBlank, IsSpelled, after_blanks_spelled, pair_small}
+use Rattle.litrs_build.proofs.CasedSpellings.{cased_is_item, cased_item_value, cased_free, cased_scalars, own_fits, own_value, char_fits, char_spelling-value, NotBlank, IsSpelled, after_blanks_spelled}
 use Rattle.litrs_build.proofs.Spellings.{IsOther, scalars_append}
 
 pub scalars_parts : (s t : List ℕ) → scalars (s ++ t) ≡ true →

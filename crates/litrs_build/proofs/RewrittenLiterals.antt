@@ -1,25 +1,25 @@
 -- A literal that is rewritten: it is a literal with the same kind, value and suffix.
-use Rattle.std.proofs.Common.{◌≡◌, ℕ, ◌<◌, ◌≤◌, ◌+◌, ◌&&◌, Bool, true, false, not, List, [], ◌∷◌, ◌++◌, length, take, drop, refl, sym, ap, ◌∙◌, subst, arith}
+use Rattle.std.proofs.Common.{◌≡◌, ℕ, ◌<◌, ◌≤◌, Bool, true, false, not, List, [], ◌∷◌, ◌++◌, length, take, drop, refl, sym, ap, ◌∙◌, subst, arith}
 use Rattle.std.specs.Prelude.{◌==◌, ◌-◌, slice_range, encode_utf8_all}
 use Rattle.std.specs.Char.{encode_utf8}
 use Rattle.std.specs.Str.{chars, IsUtf8, IsCharBoundary}
-use Rattle.std.proofs.lemmas.Bool.{and_from, and_parts, not-true, true≢false}
+use Rattle.std.proofs.lemmas.Bool.{and_parts, not-true, true≢false}
 use Rattle.std.proofs.lemmas.List.{append_assoc}
 use Rattle.std.proofs.lemmas.Str.{chars-encodes, encodes-chars, encodes-append, scalars-chars}
-use lib.Utf8.{scalar, scalars}
+use lib.Utf8.{scalars}
 use Rattle.litrs_base.specs.Characters.{is_blank, fits_charset, nul_is_allowed}
-use Rattle.litrs_base.specs.Quotes.{switches_of, quoted_front, raw_front, char_front, char_switches_of}
+use Rattle.litrs_base.specs.Quotes.{switches_of, quoted_front, char_front, char_switches_of}
 use Rattle.litrs_base.specs.Text.{byte_len, first_passes}
 use Rattle.litrs_base.specs.declared.quotes.CharKind.{CharKind}
 use Rattle.litrs_base.specs.declared.quotes.CharKind.TheVariants.{Char as char_kind, Byte as byte_kind}
 use Rattle.litrs_base.specs.declared.quotes.StringKind.{StringKind}
 use Rattle.litrs_base.specs.declared.quotes.StringKind.TheVariants.{String as string_kind, ByteString as byte_string_kind, CString as c_string_kind}
 use Rattle.litrs_base.specs.declared.quotes.Switches.{Switches}
-use Rattle.litrs_grammar.specs.CharByte.{CharParts, char_text, char_item_text, IsCharLiteral, char_value, is_char_item}
+use Rattle.litrs_grammar.specs.CharByte.{CharParts, char_text, char_item_text, IsCharLiteral, char_value}
 use Rattle.litrs_grammar.specs.Escape.{simple_escape, hex_escape, unicode_escape}
 use Rattle.litrs_grammar.specs.Literal.{StringParts, quoted_parts, raw_parts, IsString, string_suffix, string_value, Derivation, a_bool, an_integer, a_float, a_char, a_byte, a_string, a_byte_string, a_c_string, IsLiteral, suffix_of}
 use Rattle.litrs_grammar.specs.LiteralText.{string_text, literal_text, AreCharParts, AreStringParts, AreParts}
-use Rattle.litrs_grammar.specs.Quoted.{Item, plain_item, escape_item, continuation, item_text, body_text, body_value, is_item, is_plain, is_body, takes_all_blanks, QuotedParts, IsQuotedLiteral, quoted_text}
+use Rattle.litrs_grammar.specs.Quoted.{Item, plain_item, escape_item, continuation, item_text, body_text, is_item, is_body, takes_all_blanks, QuotedParts, IsQuotedLiteral}
 use Rattle.litrs_grammar.specs.Strings.{StringDerivation, is_raw}
 use Rattle.litrs_grammar.proofs.StringDerivations.{string_derivation-prop}
 use Rattle.litrs_grammar.proofs.LiteralTexts.{literals_are_written}
@@ -39,8 +39,8 @@ use Rattle.litrs_build.specs.declared.style.Case.{Case}
 use Rattle.litrs_build.specs.declared.style.Style.{Style}
 use Rattle.litrs_build.proofs.CasedIntegers.{rewritten_is_integer, rewritten_integer-value}
 use Rattle.litrs_build.proofs.RewrittenFloats.{rewritten_is_float, rewritten_float-number}
-use Rattle.litrs_build.proofs.RewrittenItems.{IsBodyLike, rewritten_body, scalars_parts}
-use Rattle.litrs_build.proofs.RewrittenChars.{IsCharLike, rewritten_item, as_item_text, char_is_any, char_takes}
+use Rattle.litrs_build.proofs.RewrittenItems.{rewritten_body, scalars_parts}
+use Rattle.litrs_build.proofs.RewrittenChars.{rewritten_item, as_item_text, char_is_any, char_takes}
 use Rattle.litrs_build.proofs.Spellings.{scalars_append}
 
 -- The front of a text

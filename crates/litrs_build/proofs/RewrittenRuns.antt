@@ -1,23 +1,21 @@
 -- A run of plain ASCII in a body is written as it is.
-use Rattle.std.proofs.Common.{◌≡◌, ℕ, ◌<◌, ◌&&◌, ◌||◌, inl, inr, ◌⊎◌, Bool, true, false, List, [], ◌∷◌, ◌++◌, map, length, take, drop, refl, sym, ap, subst, ◌∙◌, arith}
+use Rattle.std.proofs.Common.{◌≡◌, ℕ, ◌<◌, inl, inr, ◌⊎◌, true, false, List, [], ◌∷◌, ◌++◌, map, length, take, drop, refl, sym, ap, subst, ◌∙◌, arith}
 use Rattle.std.specs.Prelude.{◌==◌, encode_utf8_all}
 use Rattle.std.specs.List.{list_all, prefix_len}
 use Rattle.std.specs.Str.{chars, IsUtf8, IsCharBoundary}
-use Rattle.std.proofs.lemmas.Bool.{and_parts, ne_eqb, true≢false}
+use Rattle.std.proofs.lemmas.Bool.{and_parts}
 use Rattle.std.proofs.lemmas.Bool.Decides.{nat_tests}
 use Rattle.std.proofs.lemmas.List.{append_assoc, length-take-le, take-append-drop}
 use Rattle.litrs_base.proofs.Chars.{passing_front}
 use Rattle.litrs_base.proofs.ListTests.{if_false}
 use Rattle.litrs_base.specs.declared.quotes.Switches.{Switches}
-use Rattle.litrs_grammar.specs.Escape.{Escape, simple_escape, hex_escape, unicode_escape}
-use Rattle.litrs_grammar.specs.Quoted.{Item, plain_item, escape_item, continuation, item_text, body_text, is_item, is_body, takes_all_blanks}
-use Rattle.litrs_build.specs.BodyItem.{IsBody}
+use Rattle.litrs_grammar.specs.Escape.{simple_escape, hex_escape, unicode_escape}
+use Rattle.litrs_grammar.specs.Quoted.{Item, plain_item, escape_item, continuation, body_text, is_body}
 use Rattle.litrs_build.specs.Pieces.{is_plain_ascii}
-use Rattle.litrs_build.specs.Rewriting.{after_blanks, before_after, is_mark, item_rewriting, items_of, line_feed_rewriting, needed_char, plain_rewriting, rewritten_items, run_len}
+use Rattle.litrs_build.specs.Rewriting.{before_after, item_rewriting, items_of, line_feed_rewriting, needed_char, plain_rewriting, rewritten_items, run_len}
 use Rattle.litrs_build.specs.declared.rewriting.Before.{Before}
 use Rattle.litrs_build.specs.declared.rewriting.Before.TheVariants.{Text, Mark, Continuation}
-use Rattle.litrs_build.specs.declared.rewriting.Rewriting.{Rewriting}
-use Rattle.litrs_build.specs.declared.rewriting.Rewriting.TheVariants.{Unchanged, Spelled}
+use Rattle.litrs_build.specs.declared.rewriting.Rewriting.TheVariants.{Spelled}
 use Rattle.litrs_build.specs.declared.spelling.Spelling.{Spelling}
 use Rattle.litrs_build.specs.declared.spelling.Spelling.TheVariants.{Plain}
 use Rattle.litrs_build.specs.declared.style.Escapes.{Escapes}

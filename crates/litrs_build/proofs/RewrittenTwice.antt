@@ -1,16 +1,15 @@
 -- A literal that is rewritten twice in a style is as after the first time.
-use Rattle.std.proofs.Common.{◌≡◌, ◌⊎◌, inl, inr, ℕ, ◌<◌, ◌/◌, ◌%◌, Bool, true, false, cond, ◌||◌, List, [], ◌∷◌, ◌++◌, map, refl, sym, ap, ◌∙◌, subst, arith}
+use Rattle.std.proofs.Common.{◌≡◌, ◌⊎◌, inl, inr, ℕ, ◌<◌, ◌/◌, ◌%◌, Bool, true, false, ◌||◌, List, [], ◌∷◌, ◌++◌, map, refl, sym, ap, ◌∙◌, subst, arith}
 use Rattle.std.specs.Prelude.{◌==◌, filter, Option, Some, None}
 use Rattle.std.specs.Fmt.{digits, digit_glyph}
-use Rattle.std.specs.List.{list_all, list_any}
+use Rattle.std.specs.List.{list_any}
 use Rattle.std.specs.Str.{chars, IsUtf8}
-use Rattle.std.proofs.lemmas.Bool.{and_parts, cond_both, cases_eq, lt-ltb, ltb-true, ne_eqb, not_from_false, true≢false}
+use Rattle.std.proofs.lemmas.Bool.{and_parts, cond_both, lt-ltb, ltb-true, not_from_false, true≢false}
 use Rattle.std.proofs.lemmas.Str.{scalars-chars}
 use lib.Utf8.{scalar, scalars, low_scalar}
 use Rattle.litrs_base.proofs.ListTests.{if_true, if_false}
 use Rattle.litrs_base.specs.Characters.{is_ascii, is_blank}
-use Rattle.litrs_base.specs.declared.escape.Unescape.{Unescape}
-use Rattle.litrs_base.specs.declared.escape.Unescape.TheVariants.{Byte, Unicode as unicode_value}
+use Rattle.litrs_base.specs.declared.escape.Unescape.TheVariants.{Byte}
 use Rattle.litrs_base.specs.Numeral.{is_no_underscore}
 use Rattle.litrs_base.specs.Quotes.{switches_of, quoted_front, char_switches_of}
 use Rattle.litrs_base.specs.declared.quotes.CharKind.{CharKind}
@@ -37,7 +36,6 @@ use Rattle.litrs_build.specs.declared.spelling.Spelling.{Spelling}
 use Rattle.litrs_build.specs.declared.spelling.Spelling.TheVariants.{Plain, Simple, Hex, Unicode}
 use Rattle.litrs_build.specs.declared.style.Style.{Style}
 use Rattle.litrs_build.specs.declared.style.Case.{Case}
-use Rattle.litrs_build.specs.declared.style.Case.TheVariants.{Lower, Upper}
 use Rattle.litrs_build.specs.declared.style.Groups.{Groups}
 use Rattle.litrs_build.specs.declared.style.Groups.TheVariants.{Kept, Regrouped, Grouped}
 use Rattle.litrs_build.specs.declared.style.Escapes.{Escapes}
@@ -52,7 +50,7 @@ use Rattle.litrs_build.proofs.RewrittenChars.{as_item_text}
 use Rattle.litrs_build.proofs.RewrittenFloats.{float_twice}
 use Rattle.litrs_build.proofs.RewrittenItems.{scalars_parts, simple_low}
 use Rattle.litrs_build.proofs.RewrittenLiterals.{item_scalars}
-use Rattle.litrs_build.proofs.Spellings.{IsOther, spelling_by, or_false}
+use Rattle.litrs_build.proofs.Spellings.{spelling_by, or_false}
 
 -- A spelling of which the item stays, or is spelled so again.
 abbrev pub Stable : Style → (quote : ℕ) → Before → Spelling → Type 0
