@@ -131,6 +131,8 @@ def calls():
         yield f"litrs_build::{call}"
     yield "litrs_diagnostic::shown over &str"
     yield "litrs_diagnostic::shown_refusal over &str"
+    yield "litrs_diagnostic::shown_in_color over &str"
+    yield "Lines::new over &str"
     yield "litrs_explanation::explanation over &str"
     yield "MemOutput::new over &str"
     yield "litrs_lines::run over &str"

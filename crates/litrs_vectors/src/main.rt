@@ -19,6 +19,7 @@ use trial::Trial;
 mod allocating_calls;
 mod answers;
 mod builds;
+mod diagnostics;
 mod feeds;
 mod field_value;
 mod fronts;
@@ -102,6 +103,8 @@ fn try_row(trial: &mut Trial, row: &Row) {
         "read_prefix" => values::try_read_prefix(trial, row),
         "float" => values::try_float(trial, row),
         "rewritten" => rewritings::try_rewritten(trial, row),
+        "Lines" => diagnostics::try_places(trial, row),
+        "Diagnostic" => diagnostics::try_message(trial, row),
         _ => try_text(trial, row),
     }
     unallocated::try_text(trial, row.text.as_str());
