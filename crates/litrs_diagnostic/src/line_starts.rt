@@ -5,7 +5,7 @@ ghost use Rattle.litrs_diagnostic.specs.Position.{is_line_feed, line_number, col
 ghost use Rattle.litrs_diagnostic.specs.Lines.{IsLineLen};
 
 use crate::places::{LineColumn, position};
-use memchr::{memchr, memchr_iter};
+use memchr::memchr;
 use std::alloc::{AllocError, Global};
 use std::marker::Model;
 
@@ -38,17 +38,15 @@ impl<'a> Model for Lines<'a> {
 }
 
 impl<'a> Lines<'a> {
-    /// Returns the index of the lines of `source`. Its starts are one allocation.
+    /// Returns the index of the lines of `source`. Its starts are allocated again while they grow.
     ///
     /// # Errors
     ///
-    /// Returns `AllocError` if the allocation fails.
+    /// Returns `AllocError` if an allocation fails.
     pub fn new(alloc: Global, source: &'a str) -> Result<Lines<'a>, AllocError>
         ensures { IfOk result (λ lines. lines ≡ source.now) }
     {
-        let line_feeds = memchr_iter(b'\n', source.as_bytes()).count();
-        // bounded by the length of the text: one for each of its LFs.
-        let mut starts = Vec::with_capacity(alloc, line_feeds)?;
+        let mut starts = Vec::new(alloc);
         let mut start = 0;
         while let Some(len) = line_len(&source[start..]) {
             start += len;

@@ -10,7 +10,7 @@ use Rattle.litrs_diagnostic.proofs.line_starts.Lines.new.Goals as goal
 
 pub loop-len-init : goal.loop-len-init
 loop-len-init c =
-    rw c.in_ok-starts.ensures.items (record {
+    rw c.new-starts.ensures.items (record {
       here = first_start c.args.source.now c.utf8.source;
       starts = λ k within. absurd (omega arith);
       sorted = IsNonDecreasingBy-short (λ (x : ℕ). x) [] (omega arith);
