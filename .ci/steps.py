@@ -22,7 +22,7 @@ PROGRAM = TOP / "crates/litrs_vectors/out/litrs_vectors"
 # N.
 COUNT = 100
 MOST = 2.5
-# A copy of many bytes by one instruction counts as an instruction for each byte, so there is none.
+# Copies do not use the instruction that copies many bytes: it counts once for each byte.
 TUNABLES = ":".join(f"glibc.cpu.x86_rep_{it}_threshold=0x40000000" for it in ("movsb", "stosb"))
 # A first line, a piece, and a last line that completes a literal, as fields of the table.
 SHAPES = [
