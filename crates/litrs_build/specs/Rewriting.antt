@@ -11,8 +11,8 @@ use Rattle.litrs_grammar.specs.Escape.{Escape, simple_escape, hex_escape, unicod
 use Rattle.litrs_grammar.specs.CharByte.{CharItem, plain_char, escaped_char, CharParts}
 use Rattle.litrs_grammar.specs.Quoted.{Item, plain_item, escape_item, continuation}
 use Rattle.litrs_grammar.specs.Literal.{StringParts, quoted_parts, raw_parts, Derivation, a_bool, an_integer, a_float, a_char, a_byte, a_string, a_byte_string, a_c_string}
-use Rattle.litrs_build.specs.RewrittenFloat.{rewritten_float}
-use Rattle.litrs_build.specs.RewrittenInteger.{rewritten_integer}
+use Rattle.litrs_build.specs.RewrittenFloat.{keeps_floats, rewritten_float}
+use Rattle.litrs_build.specs.RewrittenInteger.{keeps_integers, rewritten_integer}
 use Rattle.litrs_build.specs.Pieces.{is_plain_ascii}
 use Rattle.litrs_build.specs.Spelling.{char_spelling}
 use Rattle.litrs_build.specs.Written.{quoted_of}
@@ -175,3 +175,15 @@ rewritten style (a_byte d) = a_byte (rewritten_char style d)
 rewritten style (a_string d) = a_string (rewritten_string style d)
 rewritten style (a_byte_string d) = a_byte_string (rewritten_string style d)
 rewritten style (a_c_string d) = a_c_string (rewritten_string style d)
+
+-- `true` iff a style with these escapes and lines changes nothing between quotes.
+abbrev pub keeps_bodies : Escapes → Lines → Bool
+keeps_bodies escapes_kept lines_kept = true
+keeps_bodies _ _ = false
+
+-- `true` only if the style changes no literal of the kind of this one.
+abbrev pub keeps : Style → Derivation → Bool
+keeps style (a_bool b) = true
+keeps style (an_integer d) = keeps_integers style.digits style.groups
+keeps style (a_float d) = keeps_floats style.exponents style.float_groups
+keeps style _ = keeps_bodies style.escapes style.lines
