@@ -13,7 +13,7 @@ use Rattle.litrs_grammar.specs.Quoted.{Item, plain_item, escape_item, continuati
 use Rattle.litrs_grammar.specs.Literal.{StringParts, quoted_parts, raw_parts, Derivation, a_bool, an_integer, a_float, a_char, a_byte, a_string, a_byte_string, a_c_string}
 use Rattle.litrs_build.specs.RewrittenFloat.{keeps_floats, rewritten_float}
 use Rattle.litrs_build.specs.RewrittenInteger.{keeps_integers, rewritten_integer}
-use Rattle.litrs_build.specs.Pieces.{is_plain_ascii}
+use Rattle.litrs_build.specs.Pieces.{is_plain}
 use Rattle.litrs_build.specs.Spelling.{char_spelling}
 use Rattle.litrs_build.specs.Written.{quoted_of}
 use Rattle.litrs_build.specs.declared.rewriting.Before.{Before}
@@ -70,11 +70,16 @@ abbrev pub after_blanks : Before → Spelling → Spelling
 after_blanks Continuation (Plain c) = if is_blank c then Hex c else Plain c
 after_blanks _ spelling = spelling
 
--- The length of the plain ASCII at the front of the bytes, which is written as it is in every
--- style. After a continuation it is 0.
-abbrev pub run_len : Before → List ℕ → ℕ
-run_len Continuation bytes = 0
-run_len _ bytes = prefix_len is_plain_ascii bytes
+-- `true` iff each character other than an LF stays as it is.
+abbrev pub keeps_chars : Escapes → Bool
+keeps_chars Needed = false
+keeps_chars _ = true
+
+-- The length of the plain bytes at the front, which are written as they are: of all of them if
+-- characters stay, otherwise of ASCII. After a continuation it is 0.
+abbrev pub run_len : Escapes → Before → List ℕ → ℕ
+run_len escapes Continuation bytes = 0
+run_len escapes _ bytes = prefix_len (is_plain (keeps_chars escapes)) bytes
 
 -- The spelling of a character that has only the escapes that are needed.
 abbrev pub needed_char : (quote : ℕ) → Before → ℕ → Spelling

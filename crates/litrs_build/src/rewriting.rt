@@ -14,7 +14,7 @@ ghost use Rattle.litrs_grammar.specs.Quoted.{Item, item_text, body_text, QuotedP
 ghost use Rattle.litrs_grammar.specs.Strings.{is_raw};
 ghost use Rattle.litrs.specs.LiteralDerivation.{derivation};
 ghost use Rattle.litrs_build.specs.BodyItem.{Reads, BeginsWithItem, IsBody};
-ghost use Rattle.litrs_build.specs.Rewriting.{is_mark, after_blanks, run_len, needed_char, needed_spelling, plain_rewriting, escape_rewriting, line_feed_rewriting, continuation_rewriting, item_rewriting, before_after, items_of, cased_item, cased_digit, keeps, rewritten, rewritten_items, rewritten_string, rewritten_char};
+ghost use Rattle.litrs_build.specs.Rewriting.{is_mark, after_blanks, run_len, needed_char, needed_spelling, plain_rewriting, escape_rewriting, line_feed_rewriting, continuation_rewriting, item_rewriting, before_after, items_of, cased_item, cased_digit, keeps, keeps_chars, rewritten, rewritten_items, rewritten_string, rewritten_char};
 ghost use Rattle.litrs_build.specs.WrittenAnew.{HaveSameValue};
 
 use crate::body_item::{BodyItem, read_item, starts_with};
@@ -182,7 +182,7 @@ fn push_body(
     let mut rest = body;
     let mut before = Before::Mark;
     while !starts_with(rest.as_bytes(), b'"') {
-        let run = run_len(rest.as_bytes(), before);
+        let run = run_len(rest.as_bytes(), before, style.escapes);
         if run > 0 {
             text.push_str(&rest[..run])?;
             before = Before::Text;
@@ -199,15 +199,25 @@ fn push_body(
     Ok(())
 }
 
-/// Returns the length of the plain ASCII that `rest` starts with, which is written as it is. It is
-/// 0 after a continuation.
-fn run_len(rest: &[u8], before: Before) -> usize
-    ensures len { result ≡ run_len before rest.now }
+/// Returns the length of the plain bytes that `rest` starts with, which are written as they are: of
+/// all of them if characters stay, otherwise of ASCII. It is 0 after a continuation.
+fn run_len(rest: &[u8], before: Before, escapes: Escapes) -> usize
+    ensures len { result ≡ run_len escapes before rest.now }
     ensures within { result ≤ length rest.now }
 {
     match before {
-        Before::Text | Before::Mark => plain_len(rest),
+        Before::Text | Before::Mark => plain_len(rest, keeps_chars(escapes)),
         Before::Continuation => 0,
+    }
+}
+
+/// Returns `true` if each character other than LF stays as it is.
+fn keeps_chars(escapes: Escapes) -> bool
+    ensures { result ≡ keeps_chars escapes }
+{
+    match escapes {
+        Escapes::Kept | Escapes::Respelled => true,
+        Escapes::Needed => false,
     }
 }
 
