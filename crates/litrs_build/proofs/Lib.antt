@@ -44,3 +44,4 @@ pub mod RewrittenLiterals
 pub mod RewrittenRuns
 pub mod CasedIntegers
 pub mod RewrittenTwice
+pub mod RewrittenKept

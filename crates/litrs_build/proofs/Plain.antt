@@ -75,10 +75,9 @@ pub front_passes : (p : ℕ → Bool) (bs : List ℕ) → list_all p (take (pref
 front_passes p [] = refl
 front_passes p (b ∷ bs) = passes_step p b bs (p b) refl (front_passes p bs)
 
-pub none_passes : (bs : List ℕ) → first_passes is_plain_ascii bs ≡ false →
-    prefix_len is_plain_ascii bs ≡ 0
-none_passes [] stops = refl
-none_passes (b ∷ bs) stops = cond-false (is_plain_ascii b) (1 + prefix_len is_plain_ascii bs) 0 stops
+pub none_passes : (p : ℕ → Bool) (bs : List ℕ) → first_passes p bs ≡ false → prefix_len p bs ≡ 0
+none_passes p [] stops = refl
+none_passes p (b ∷ bs) stops = cond-false (p b) (1 + prefix_len p bs) 0 stops
 
 plain_stays : (t : List ℕ) → list_all is_plain_ascii t ≡ true → encode_utf8_all t ≡ t
 plain_stays t all = encodes_ascii t (list_all-weaken is_plain_ascii is_ascii

@@ -1,11 +1,11 @@
--- The mask of the bytes that are not plain ASCII, by comparing lanes.
+-- The mask of the bytes that are not plain, by comparing lanes.
 use Rattle.std.proofs.Common.{◌≡◌, ℕ, ◌%◌, ◌^◌, ◌≤◌, ltb, eqb, Bool, true, false, not, ◌||◌, cond, List, [], ◌∷◌, map, length, replicate, Fits, w8, refl, ap, ◌∙◌, arith}
 use Rattle.std.proofs.lemmas.Bool.{agree_below, agree_below_at}
 use Rattle.std.proofs.lemmas.Simd.{zip2_splat, zip2_splat_left, zip2_of_maps, map-map, mask_l-mod}
 use Rattle.std.proofs.lemmas.List.{length-map}
 use lib.Bits.{bit_or}
 use lib.Lanes.{zip2, mask_l, top, Each1}
-use Rattle.litrs_build.specs.Pieces.{is_plain_ascii}
+use Rattle.litrs_build.specs.Pieces.{is_plain}
 
 -- lanes that are 255 where a test holds and 0 elsewhere
 abbrev mark : Bool → ℕ
@@ -40,19 +40,22 @@ marked p v short lanes =
     ∙ mask_l-mod (map p v) 64 (omega (arith, length-map v p))
 
 -- the lanes of one byte, with which others are compared
-abbrev is_hit : ℕ → Bool
-is_hit x = ((ltb x 32 || ltb 126 x) || eqb x 34) || eqb x 92
+abbrev is_hit : (last : ℕ) → ℕ → Bool
+is_hit last x = ((ltb x 32 || ltb last x) || eqb x 34) || eqb x 92
 
-abbrev pub is_other : ℕ → Bool
-is_other x = not (is_plain_ascii x)
+abbrev pub is_other : (wide : Bool) → ℕ → Bool
+is_other wide x = not (is_plain wide x)
 
-hits : agree_below is_hit is_other 256 ≡ true
-hits = refl
+hits : (wide : Bool) → agree_below (is_hit (cond wide 255 126)) (is_other wide) 256 ≡ true
+hits true = refl
+hits false = refl
 
-hits_other : (v : List ℕ) → Each1 (Fits w8) v → map is_hit v ≡ map is_other v
-hits_other [] fits = refl
-hits_other (x ∷ xs) fits =
-    λ i. agree_below_at is_hit is_other 256 x hits fits.0.fits i ∷ hits_other xs fits.1 i
+hits_other : (wide : Bool) (v : List ℕ) → Each1 (Fits w8) v →
+    map (is_hit (cond wide 255 126)) v ≡ map (is_other wide) v
+hits_other wide [] fits = refl
+hits_other wide (x ∷ xs) fits =
+    λ i. agree_below_at (is_hit (cond wide 255 126)) (is_other wide) 256 x (hits wide) fits.0.fits i
+    ∷ hits_other wide xs fits.1 i
 
 abbrev equal : ℕ → ℕ → ℕ
 equal a b = mark (eqb a b)
@@ -63,15 +66,17 @@ below a b = mark (ltb a b)
 abbrev joined : List ℕ → List ℕ → List ℕ
 joined = zip2 bit_or
 
-pub marks_other : (v : List ℕ) (n : ℕ) → length v ≡ n → n ≤ 64 → Each1 (Fits w8) v →
+pub marks_other : (wide : Bool) (v : List ℕ) (n last : ℕ) → length v ≡ n → n ≤ 64 →
+    Each1 (Fits w8) v → last ≡ cond wide 255 126 →
     mask_l (map (top 7) (joined (joined (joined (zip2 below v (replicate n 32))
-    (zip2 below (replicate n 126) v)) (zip2 equal v (replicate n 34)))
+    (zip2 below (replicate n last) v)) (zip2 equal v (replicate n 34)))
     (zip2 equal v (replicate n 92)))) % 2 ^ 64
-    ≡ mask_l (map is_other v)
-marks_other v n long few fits =
-    marked is_hit v (omega arith)
+    ≡ mask_l (map (is_other wide) v)
+marks_other wide v n last long few fits is =
+    marked (is_hit last) v (omega arith)
     (either _ (λ x. eqb x 92) v (either _ (λ x. eqb x 34) v
-    (either (λ x. ltb x 32) (λ x. ltb 126 x) v
-    (zip2_splat below v n 32 long) (zip2_splat_left below 126 n v long))
+    (either (λ x. ltb x 32) (λ x. ltb last x) v
+    (zip2_splat below v n 32 long) (zip2_splat_left below last n v long))
     (zip2_splat equal v n 34 long)) (zip2_splat equal v n 92 long))
-    ∙ ap mask_l (hits_other v fits)
+    ∙ ap (λ (k : ℕ). mask_l (map (is_hit k) v)) is
+    ∙ ap mask_l (hits_other wide v fits)

@@ -169,7 +169,7 @@ fraction_twice None (Some t) all = refl
 fraction_twice (Some group) (Some t) all =
     ap (λ (ds : List ℕ). Some (grouped_after group 0 ds)) (fraction_digits (Some group) t all)
 
-fraction_kept : (f : Option (List ℕ)) → option_map (regrouped_fraction None) f ≡ f
+pub fraction_kept : (f : Option (List ℕ)) → option_map (regrouped_fraction None) f ≡ f
 fraction_kept None = refl
 fraction_kept (Some t) = refl
 

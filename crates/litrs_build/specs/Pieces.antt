@@ -7,10 +7,15 @@ use Rattle.litrs_build.specs.declared.pieces.Piece.{Piece}
 use Rattle.litrs_build.specs.declared.pieces.Piece.TheVariants.{Plain, Spelled}
 use Rattle.litrs_build.specs.Spelling.{is_escaped, spelled_item}
 
--- `true` iff the byte is plain ASCII, which is written as it is: from the space to `~`, but neither
--- the double quote nor the backslash.
+-- `true` iff the byte or the character is plain: from the space to `~`, or from there on if `wide`,
+-- but neither the double quote nor the backslash.
+abbrev pub is_plain : (wide : Bool) → ℕ → Bool
+is_plain wide b =
+    (nat_le space b && (wide || nat_le b 126)) && not ((b == double_quote) || (b == backslash))
+
+-- `true` iff the byte is plain ASCII, which is written as it is.
 abbrev pub is_plain_ascii : ℕ → Bool
-is_plain_ascii b = (nat_le space b && nat_le b 126) && not ((b == double_quote) || (b == backslash))
+is_plain_ascii b = is_plain false b
 
 -- `true` iff the piece is an escape.
 abbrev pub is_escape : Piece → Bool

@@ -11,9 +11,9 @@ use Rattle.litrs_grammar.specs.Escape.{Escape, simple_escape, hex_escape, unicod
 use Rattle.litrs_grammar.specs.CharByte.{CharItem, plain_char, escaped_char, CharParts}
 use Rattle.litrs_grammar.specs.Quoted.{Item, plain_item, escape_item, continuation}
 use Rattle.litrs_grammar.specs.Literal.{StringParts, quoted_parts, raw_parts, Derivation, a_bool, an_integer, a_float, a_char, a_byte, a_string, a_byte_string, a_c_string}
-use Rattle.litrs_build.specs.RewrittenFloat.{rewritten_float}
-use Rattle.litrs_build.specs.RewrittenInteger.{rewritten_integer}
-use Rattle.litrs_build.specs.Pieces.{is_plain_ascii}
+use Rattle.litrs_build.specs.RewrittenFloat.{keeps_floats, rewritten_float}
+use Rattle.litrs_build.specs.RewrittenInteger.{keeps_integers, rewritten_integer}
+use Rattle.litrs_build.specs.Pieces.{is_plain}
 use Rattle.litrs_build.specs.Spelling.{char_spelling}
 use Rattle.litrs_build.specs.Written.{quoted_of}
 use Rattle.litrs_build.specs.declared.rewriting.Before.{Before}
@@ -70,11 +70,16 @@ abbrev pub after_blanks : Before → Spelling → Spelling
 after_blanks Continuation (Plain c) = if is_blank c then Hex c else Plain c
 after_blanks _ spelling = spelling
 
--- The length of the plain ASCII at the front of the bytes, which is written as it is in every
--- style. After a continuation it is 0.
-abbrev pub run_len : Before → List ℕ → ℕ
-run_len Continuation bytes = 0
-run_len _ bytes = prefix_len is_plain_ascii bytes
+-- `true` iff each character other than an LF stays as it is.
+abbrev pub keeps_chars : Escapes → Bool
+keeps_chars Needed = false
+keeps_chars _ = true
+
+-- The length of the plain bytes at the front, which are written as they are: of all of them if
+-- characters stay, otherwise of ASCII. After a continuation it is 0.
+abbrev pub run_len : Escapes → Before → List ℕ → ℕ
+run_len escapes Continuation bytes = 0
+run_len escapes _ bytes = prefix_len (is_plain (keeps_chars escapes)) bytes
 
 -- The spelling of a character that has only the escapes that are needed.
 abbrev pub needed_char : (quote : ℕ) → Before → ℕ → Spelling
@@ -175,3 +180,15 @@ rewritten style (a_byte d) = a_byte (rewritten_char style d)
 rewritten style (a_string d) = a_string (rewritten_string style d)
 rewritten style (a_byte_string d) = a_byte_string (rewritten_string style d)
 rewritten style (a_c_string d) = a_c_string (rewritten_string style d)
+
+-- `true` iff a style with these escapes and lines changes nothing between quotes.
+abbrev pub keeps_bodies : Escapes → Lines → Bool
+keeps_bodies escapes_kept lines_kept = true
+keeps_bodies _ _ = false
+
+-- `true` only if the style changes no literal of the kind of this one.
+abbrev pub keeps : Style → Derivation → Bool
+keeps style (a_bool b) = true
+keeps style (an_integer d) = keeps_integers style.digits style.groups
+keeps style (a_float d) = keeps_floats style.exponents style.float_groups
+keeps style _ = keeps_bodies style.escapes style.lines

@@ -1,6 +1,6 @@
 -- A float that is rewritten in a style: the letter of its exponent, and the groups of the digits of
 -- its parts. The Rust Reference, Tokens, Literals: "Floating-point literals".
-use Rattle.std.specs.Prelude.{ℕ, ◌+◌, List, [], ◌∷◌, ◌++◌, take, drop, filter, Option, Some, None, option_map, if◌then◌else◌}
+use Rattle.std.specs.Prelude.{ℕ, ◌+◌, Bool, true, false, List, [], ◌∷◌, ◌++◌, take, drop, filter, Option, Some, None, option_map, if◌then◌else◌}
 use Rattle.std.specs.List.{list_any}
 use Rattle.litrs_base.specs.Characters.{underscore}
 use Rattle.litrs_base.specs.Numeral.{is_no_underscore}
@@ -69,3 +69,8 @@ regrouped_float case lens d = record {
 abbrev pub rewritten_float : Style → FloatParts → FloatParts
 rewritten_float style d =
     regrouped_float style.exponents (part_lens style.float_groups (number_part d)) d
+
+-- `true` iff a style with this case and these groups changes no float.
+abbrev pub keeps_floats : Option Case → FloatGroups → Bool
+keeps_floats None Kept = true
+keeps_floats _ _ = false

@@ -1,6 +1,6 @@
 -- An integer that is rewritten in a style: the case of its digits, and their groups. The Rust
 -- Reference, Tokens, Literals: "Integer literals".
-use Rattle.std.specs.Prelude.{ℕ, List, map, filter, Option, Some, None, if◌then◌else◌}
+use Rattle.std.specs.Prelude.{ℕ, Bool, true, false, List, map, filter, Option, Some, None, if◌then◌else◌}
 use Rattle.std.specs.Char.{to_ascii_lowercase, to_ascii_uppercase}
 use Rattle.std.specs.List.{list_any}
 use Rattle.litrs_base.specs.Numeral.{is_no_underscore}
@@ -48,3 +48,8 @@ rewritten_integer style d = record {
   main = rewritten_main style.digits (group_of style.groups d.base d.main) d.base d.main d.suffix;
   suffix = d.suffix;
 }
+
+-- `true` iff a style with this case and these groups changes no integer.
+abbrev pub keeps_integers : Option Case → Groups → Bool
+keeps_integers None Kept = true
+keeps_integers _ _ = false

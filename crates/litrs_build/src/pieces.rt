@@ -1,9 +1,9 @@
 //! The pieces of a body between double quotes: plain ASCII, and characters and bytes one by one.
-ghost use Rattle.std.specs.Prelude.{◌≡◌, ◌≤◌, ◌++◌, not, map, take, length, OnOk, string_bytes};
+ghost use Rattle.std.specs.Prelude.{◌≡◌, ◌≤◌, ◌++◌, not, map, take, length, OnOk, string_bytes, if◌then◌else◌};
 ghost use Rattle.std.specs.List.{prefix_len};
 ghost use Rattle.std.specs.Simd.Lanes.{mask_l, chunk};
 ghost use Rattle.litrs_base.specs.Text.{first_passes};
-ghost use Rattle.litrs_build.specs.Pieces.{is_plain_ascii, is_escape, piece_text};
+ghost use Rattle.litrs_build.specs.Pieces.{is_plain, is_plain_ascii, is_escape, piece_text};
 
 use crate::spelling::Spelling;
 use std::alloc::AllocError;
@@ -64,76 +64,84 @@ impl<'a> Piece<'a> {
 pub(crate) fn plain_front(bytes: &[u8]) -> &str
     ensures { result.now ≡ take (prefix_len is_plain_ascii bytes.now) bytes.now }
 {
-    unsafe { str::from_utf8_unchecked(&bytes[..plain_len(bytes)]) }
+    unsafe { str::from_utf8_unchecked(&bytes[..plain_len(bytes, false)]) }
 }
 
-/// Returns the length of the plain ASCII that `bytes` start with. If the first byte is not plain,
-/// nothing more is read.
+/// Returns the length of the plain ASCII that `bytes` start with, or, if `wide`, of the plain bytes,
+/// those above 7E among them. If the first byte is not plain, nothing more is read.
 #[inline(always)]
-pub(crate) fn plain_len(bytes: &[u8]) -> usize
-    ensures len { result ≡ prefix_len is_plain_ascii bytes.now }
+pub(crate) fn plain_len(bytes: &[u8], wide: bool) -> usize
+    ensures len { result ≡ prefix_len (is_plain wide) bytes.now }
     ensures within { result ≤ length bytes.now }
 {
-    if begins_plain(bytes) {
-        plain_len_by_lanes(bytes)
+    if begins_plain(bytes, wide) {
+        plain_len_by_lanes(bytes, wide)
     } else {
         0
     }
 }
 
-/// Returns `true` if the first byte is plain ASCII.
+/// Returns `true` if the first byte is plain.
 #[inline(always)]
-fn begins_plain(bytes: &[u8]) -> bool
-    ensures { result ≡ first_passes is_plain_ascii bytes.now }
+fn begins_plain(bytes: &[u8], wide: bool) -> bool
+    ensures { result ≡ first_passes (is_plain wide) bytes.now }
 {
     match bytes {
-        [first, ..] => is_plain_ascii(*first),
+        [first, ..] => is_plain(*first, wide),
         [] => false,
     }
 }
 
 /// Like [`plain_len`], by 16 bytes a step.
-fn plain_len_by_lanes(bytes: &[u8]) -> usize
-    ensures len { result ≡ prefix_len is_plain_ascii bytes.now }
+fn plain_len_by_lanes(bytes: &[u8], wide: bool) -> usize
+    ensures len { result ≡ prefix_len (is_plain wide) bytes.now }
     ensures within { result ≤ length bytes.now }
 {
     let mut len = 0;
     while bytes.len() - len >= STEP {
-        let others = other_marks(&bytes[len..]);
+        let others = other_marks(&bytes[len..], wide);
         if others != 0 {
             return len + others.trailing_zeros() as usize;
         }
         len += STEP;
     }
-    len + short_plain_len(&bytes[len..])
+    len + short_plain_len(&bytes[len..], wide)
 }
 
-/// Returns the length of the plain ASCII that `bytes` start with, byte by byte.
+/// Like [`plain_len`], byte by byte.
 #[inline(always)]
-fn short_plain_len(bytes: &[u8]) -> usize
-    ensures len { result ≡ prefix_len is_plain_ascii bytes.now }
+fn short_plain_len(bytes: &[u8], wide: bool) -> usize
+    ensures len { result ≡ prefix_len (is_plain wide) bytes.now }
     ensures within { result ≤ length bytes.now }
 {
-    bytes.iter().take_while(|b| is_plain_ascii(**b)).count()
+    bytes.iter().take_while(|b| is_plain(**b, wide)).count()
 }
 
-/// Returns `true` if the byte is plain ASCII.
+/// Returns `true` if the byte is plain.
 #[inline(always)]
-fn is_plain_ascii(byte: u8) -> bool
-    ensures { result ≡ is_plain_ascii byte }
+fn is_plain(byte: u8, wide: bool) -> bool
+    ensures { result ≡ is_plain wide byte }
 {
-    matches!(byte, b' '..=b'~') && byte != b'"' && byte != b'\\'
+    byte >= b' ' && (wide || byte <= b'~') && byte != b'"' && byte != b'\\'
 }
 
-/// Returns a mask of the first 16 bytes: bit `i` is set if the byte at `i` is not plain ASCII.
+/// Returns the last plain byte.
 #[inline(always)]
-fn other_marks(bytes: &[u8]) -> u64
+fn last_plain(wide: bool) -> u8
+    ensures { result ≡ if wide then 255 else 126 }
+{
+    if wide { 255 } else { b'~' }
+}
+
+/// Returns a mask of the first 16 bytes: bit `i` is set if the byte at `i` is not plain.
+#[inline(always)]
+fn other_marks(bytes: &[u8], wide: bool) -> u64
     requires { 16 ≤ length bytes.now }
-    ensures { result ≡ mask_l (map (λ b. not (is_plain_ascii b)) (chunk 0 16 bytes.now)) }
+    ensures { result ≡ mask_l (map (λ b. not (is_plain wide b)) (chunk 0 16 bytes.now)) }
 {
     let lanes = u8x16::from_slice(bytes);
     (lanes.simd_lt(Simd::splat(b' '))
-        | lanes.simd_gt(Simd::splat(b'~'))
+        | lanes.simd_gt(Simd::splat(last_plain(wide)))
         | lanes.simd_eq(Simd::splat(b'"'))
         | lanes.simd_eq(Simd::splat(b'\\'))).to_bitmask()
 }

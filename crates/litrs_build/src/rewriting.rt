@@ -14,7 +14,7 @@ ghost use Rattle.litrs_grammar.specs.Quoted.{Item, item_text, body_text, QuotedP
 ghost use Rattle.litrs_grammar.specs.Strings.{is_raw};
 ghost use Rattle.litrs.specs.LiteralDerivation.{derivation};
 ghost use Rattle.litrs_build.specs.BodyItem.{Reads, BeginsWithItem, IsBody};
-ghost use Rattle.litrs_build.specs.Rewriting.{is_mark, after_blanks, run_len, needed_char, needed_spelling, plain_rewriting, escape_rewriting, line_feed_rewriting, continuation_rewriting, item_rewriting, before_after, items_of, cased_item, cased_digit, rewritten, rewritten_items, rewritten_string, rewritten_char};
+ghost use Rattle.litrs_build.specs.Rewriting.{is_mark, after_blanks, run_len, needed_char, needed_spelling, plain_rewriting, escape_rewriting, line_feed_rewriting, continuation_rewriting, item_rewriting, before_after, items_of, cased_item, cased_digit, keeps, keeps_chars, rewritten, rewritten_items, rewritten_string, rewritten_char};
 ghost use Rattle.litrs_build.specs.WrittenAnew.{HaveSameValue};
 
 use crate::body_item::{BodyItem, read_item, starts_with};
@@ -22,7 +22,7 @@ use crate::float_style::rewritten_float;
 use crate::integer_style::rewritten_integer;
 use crate::pieces::plain_len;
 use crate::spelling::Spelling;
-use crate::style::{Case, Escapes, Lines, Style};
+use crate::style::{Case, Escapes, FloatGroups, Groups, Lines, Style};
 use litrs::{Literal, Text};
 use litrs_lex::{CharKind, StringKind, Switches, Unescape};
 use std::alloc::{AllocError, Global};
@@ -72,6 +72,9 @@ fn rewritten_text<B: Text>(
         ≡ literal_text (rewritten style.now (derivation lit.now))) }
 {
     let raw = lit.raw_input();
+    if keeps(style, lit) {
+        return String::from_str(alloc, raw);
+    }
     match lit {
         Literal::Bool(_) => String::from_str(alloc, raw),
         Literal::Integer(lit) => rewritten_integer(alloc, lit, style),
@@ -98,6 +101,29 @@ fn rewritten_text<B: Text>(
                 StringKind::CString,
                 style,
             )
+        }
+    }
+}
+
+/// Returns `true` only if `style` changes no literal of the kind of `lit`.
+fn keeps<B: Text>(style: &Style, lit: &Literal<B>) -> bool
+    ensures { result ≡ keeps style.now (derivation lit.now) }
+{
+    match lit {
+        Literal::Bool(_) => true,
+        Literal::Integer(_) => matches!((style.digits, style.groups), (None, Groups::Kept)),
+        Literal::Float(_) => {
+            matches!(
+                (style.exponents, style.float_groups),
+                (None, FloatGroups::Kept)
+            )
+        }
+        Literal::Char(_)
+        | Literal::Byte(_)
+        | Literal::String(_)
+        | Literal::ByteString(_)
+        | Literal::CString(_) => {
+            matches!((style.escapes, style.lines), (Escapes::Kept, Lines::Kept))
         }
     }
 }
@@ -156,7 +182,7 @@ fn push_body(
     let mut rest = body;
     let mut before = Before::Mark;
     while !starts_with(rest.as_bytes(), b'"') {
-        let run = run_len(rest.as_bytes(), before);
+        let run = run_len(rest.as_bytes(), before, style.escapes);
         if run > 0 {
             text.push_str(&rest[..run])?;
             before = Before::Text;
@@ -173,15 +199,25 @@ fn push_body(
     Ok(())
 }
 
-/// Returns the length of the plain ASCII that `rest` starts with, which is written as it is. It is
-/// 0 after a continuation.
-fn run_len(rest: &[u8], before: Before) -> usize
-    ensures len { result ≡ run_len before rest.now }
+/// Returns the length of the plain bytes that `rest` starts with, which are written as they are: of
+/// all of them if characters stay, otherwise of ASCII. It is 0 after a continuation.
+fn run_len(rest: &[u8], before: Before, escapes: Escapes) -> usize
+    ensures len { result ≡ run_len escapes before rest.now }
     ensures within { result ≤ length rest.now }
 {
     match before {
-        Before::Text | Before::Mark => plain_len(rest),
+        Before::Text | Before::Mark => plain_len(rest, keeps_chars(escapes)),
         Before::Continuation => 0,
+    }
+}
+
+/// Returns `true` if each character other than LF stays as it is.
+fn keeps_chars(escapes: Escapes) -> bool
+    ensures { result ≡ keeps_chars escapes }
+{
+    match escapes {
+        Escapes::Kept | Escapes::Respelled => true,
+        Escapes::Needed => false,
     }
 }
 

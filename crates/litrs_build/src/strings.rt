@@ -107,7 +107,7 @@ fn first_piece(text: &str, follows_mark: bool) -> (Piece<'_>, &str)
     ensures shorter { length result.1.now < length text.now }
     ensures utf8 { IsUtf8 result.1.now }
 {
-    let (plain, rest) = text.split_at(plain_len(text.as_bytes()));
+    let (plain, rest) = text.split_at(plain_len(text.as_bytes(), false));
     if !plain.is_empty() {
         return (Piece::Plain(plain), rest);
     }

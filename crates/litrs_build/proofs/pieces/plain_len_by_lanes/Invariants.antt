@@ -1,12 +1,13 @@
 -- All bytes so far are plain.
 use Rattle.std.proofs.Common.{◌≡◌, ◌+◌, ◌-◌, ◌≤◌, length, drop}
 use Rattle.std.specs.List.{prefix_len}
-use Rattle.litrs_build.specs.Pieces.{is_plain_ascii}
+use Rattle.litrs_build.specs.Pieces.{is_plain}
 use Rattle.litrs_build.proofs.pieces.plain_len_by_lanes.Given as goal
 
 abbrev pub invariant-loop-len : goal.invariant-loop-len
 invariant-loop-len l =
-    (prefix_len is_plain_ascii l.bytes ≡ l.len + prefix_len is_plain_ascii (drop l.len l.bytes))
+    (prefix_len (is_plain l.wide) l.bytes
+    ≡ l.len + prefix_len (is_plain l.wide) (drop l.len l.bytes))
     × (l.len ≤ length l.bytes)
 
 abbrev pub decreases-loop-len : goal.decreases-loop-len

@@ -15,16 +15,20 @@ pub range-requires-clause-end_boundary : goal.range-requires-clause-end_boundary
 range-requires-clause-end_boundary c =
     let rest = c.loop-allowed.rest.now in
     let before = c.loop-allowed.before in
-    run_cut before rest c.run_len-run.result c.loop-allowed.invariant.0
-    (c.run_len-run.ensures.len ∙ ap (run_len before) c.as_bytes-in-loop-allowed.ensures.value)
+    let style = c.args.style.now in
+    run_cut style before rest c.run_len-run.result c.loop-allowed.invariant.0
+    (c.run_len-run.ensures.len
+    ∙ ap (run_len style.escapes before) c.as_bytes-in-loop-allowed.ensures.value)
     c.if-run-gt0.true
 
 pub range_from-rest-requires : goal.range_from-rest-requires
 range_from-rest-requires c = λ some.
     let rest = c.loop-allowed.rest.now in
     let before = c.loop-allowed.before in
-    run_cut before rest c.run_len-run.result c.loop-allowed.invariant.0
-    (c.run_len-run.ensures.len ∙ ap (run_len before) c.as_bytes-in-loop-allowed.ensures.value)
+    let style = c.args.style.now in
+    run_cut style before rest c.run_len-run.result c.loop-allowed.invariant.0
+    (c.run_len-run.ensures.len
+    ∙ ap (run_len style.escapes before) c.as_bytes-in-loop-allowed.ensures.value)
     c.if-run-gt0.true
 
 pub loop-allowed-preserved-then-run-gt0 : goal.loop-allowed-preserved-then-run-gt0
@@ -38,8 +42,9 @@ loop-allowed-preserved-then-run-gt0 c = (
       let new = string_bytes c.push_str.new.self in
       let total = string_bytes c.args.text.now ++ encode_utf8_all
       (body_text (rewritten_items c.args.style.now Mark items) ++ 34 ∷ suffix) in
-      let is : n ≡ run_len before rest = c.run_len-run.ensures.len
-      ∙ ap (run_len before) c.as_bytes-in-loop-allowed.ensures.value in
+      let escapes = c.args.style.now.escapes in
+      let is : n ≡ run_len escapes before rest = c.run_len-run.ensures.len
+      ∙ ap (run_len escapes before) c.as_bytes-in-loop-allowed.ensures.value in
       let pushed : new ≡ text ++ take n rest = c.in_ok-push_str.ensures.bytes
       ∙ ap (λ (t : List ℕ). text ++ t) (c.range.ensures.value ∙ front_slice rest n) in
       subst (λ (l : List ℕ). IsLeft c.args.allowed c.args.style.now Text l new suffix total)
