@@ -6,12 +6,12 @@
 //! and numbers that contain `_` in groups of three digits, or of four if the base is not ten.
 #![tactic(auto)]
 
-ghost use Rattle.std.specs.Prelude.{◌≡◌, IfOk, IsTrue, IsFalse, MatchOption, string_bytes};
+ghost use Rattle.std.specs.Prelude.{◌≡◌, IfOk, MatchOption, string_bytes};
 ghost use Rattle.std.specs.Str.{chars};
 ghost use Rattle.litrs.specs.Derivations.{HasNoDerivation};
 ghost use Rattle.litrs.specs.Literal.{IsLiteral};
 ghost use Rattle.litrs.specs.LiteralDerivation.{derivation};
-ghost use Rattle.uses_formatter.specs.Form.{is_raw_literal, style, IsForm, IsFormOf};
+ghost use Rattle.uses_formatter.specs.Form.{is_raw_literal, IsForm, IsFormOf};
 
 use litrs::{Literal, ParseErrorKind};
 use litrs_build::{
@@ -20,13 +20,31 @@ use litrs_build::{
 };
 use std::alloc::{AllocError, Global};
 
+/// The style of literals that are not raw.
+const STYLE: Style = Style {
+    escapes: Escapes::Needed,
+    escape_digits: Case::Lower,
+    lines: Lines::Kept,
+    digits: Some(Case::Lower),
+    groups: Groups::Regrouped(GroupLens {
+        binary: 4,
+        octal: 4,
+        decimal: 3,
+        hexadecimal: 4,
+    }),
+    exponents: Some(Case::Lower),
+    float_groups: FloatGroups::Regrouped(FloatGroupLens {
+        integer: 3,
+        fraction: 3,
+        exponent: 3,
+    }),
+};
+
 fn main(rt: HostRuntime) -> anyhow::Result<()> {
     for line in rt.lines(rt.alloc()) {
         let line = line?;
-        match formatted(rt.alloc(), line.as_str())? {
-            Some(text) => println!(rt; "{text}")?,
-            None => println!(rt; "{line}")?,
-        }
+        let form = formatted(rt.alloc(), line.as_str())?;
+        println!(rt; "{}", form.unwrap_or(line))?;
     }
     Ok(())
 }
@@ -38,10 +56,7 @@ pub fn formatted(alloc: Global, text: &str) -> Result<Option<String>, AllocError
         (λ written. IsForm (chars text.now) (chars (string_bytes written)))) }
 {
     match &Literal::parse(alloc, text) {
-        Ok(lit) => {
-            let written = written(alloc, lit)?;
-            Ok(Some(written))
-        }
+        Ok(lit) => Ok(Some(written(alloc, lit)?)),
         Err(e) => match e.kind() {
             ParseErrorKind::OutOfMemory => Err(AllocError),
             _ => Ok(None),
@@ -49,36 +64,18 @@ pub fn formatted(alloc: Global, text: &str) -> Result<Option<String>, AllocError
     }
 }
 
-/// Returns the text of `lit` in the standard form.
+/// Returns the text of `lit` in the standard form: of a raw string with the least number of hashes,
+/// of another literal in the style.
 fn written(alloc: Global, lit: &Literal<&str>) -> Result<String, AllocError>
     ensures { IfOk result (λ written.
         IsFormOf (derivation lit.now) (chars (string_bytes written))) }
 {
     if is_raw(lit) {
-        written_anew(alloc, lit)
-    } else {
-        written_in_style(alloc, lit)
+        let anew = unescaped(alloc, lit)?;
+        let text = String::from_str(alloc, anew.raw_input())?;
+        return Ok(text);
     }
-}
-
-/// Returns the text of `lit`, which is raw, with the least number of hashes.
-fn written_anew(alloc: Global, lit: &Literal<&str>) -> Result<String, AllocError>
-    requires { IsTrue (is_raw_literal (derivation lit.now)) }
-    ensures { IfOk result (λ written.
-        IsFormOf (derivation lit.now) (chars (string_bytes written))) }
-{
-    let anew = unescaped(alloc, lit)?;
-    let text = String::from_str(alloc, anew.raw_input())?;
-    Ok(text)
-}
-
-/// Returns the text of `lit`, which is not raw, in the style.
-fn written_in_style(alloc: Global, lit: &Literal<&str>) -> Result<String, AllocError>
-    requires { IsFalse (is_raw_literal (derivation lit.now)) }
-    ensures { IfOk result (λ written.
-        IsFormOf (derivation lit.now) (chars (string_bytes written))) }
-{
-    let text = rewritten(alloc, lit, &style())?;
+    let text = rewritten(alloc, lit, &STYLE)?;
     Ok(text)
 }
 
@@ -91,29 +88,5 @@ fn is_raw(lit: &Literal<&str>) -> bool
         Literal::ByteString(lit) => lit.is_raw_byte_string(),
         Literal::CString(lit) => lit.is_raw_c_string(),
         _ => false,
-    }
-}
-
-/// Returns the style of literals that are not raw.
-fn style() -> Style
-    ensures { result ≡ style }
-{
-    Style {
-        escapes: Escapes::Needed,
-        escape_digits: Case::Lower,
-        lines: Lines::Kept,
-        digits: Some(Case::Lower),
-        groups: Groups::Regrouped(GroupLens {
-            binary: 4,
-            octal: 4,
-            decimal: 3,
-            hexadecimal: 4,
-        }),
-        exponents: Some(Case::Lower),
-        float_groups: FloatGroups::Regrouped(FloatGroupLens {
-            integer: 3,
-            fraction: 3,
-            exponent: 3,
-        }),
     }
 }
