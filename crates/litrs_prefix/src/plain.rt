@@ -143,8 +143,8 @@ pub fn raw_extent<'a>(text: &'a str, body: &'a str, kind: StringKind) -> Result<
     }
 }
 
-/// Like [`raw_extent`], for a body that starts with `hashes` hashes and `"`, which end at `start`. A
-/// string that is not closed extends to the end of the text.
+/// Like [`raw_extent`], for a body that starts with `hashes` hashes and `"`, which end at `start`.
+/// A string that is not closed extends to the end of the text.
 fn raw_body_extent<'a>(
     text: &'a str,
     body: &'a str,
