@@ -6,3 +6,5 @@ pub mod Printed
 pub mod Built
 -- the lines on a literal, put together
 pub mod Explained
+-- floats with the same digits
+pub mod SameNumbers

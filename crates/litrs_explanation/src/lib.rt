@@ -59,6 +59,8 @@ use ryu::Float;
 use std::alloc::{AllocError, Global};
 use std::fmt::Write;
 
+pub mod laws;
+
 /// The value of an integer that 128 bits do not hold.
 const TOO_LARGE: &str = "2^128 or more";
 

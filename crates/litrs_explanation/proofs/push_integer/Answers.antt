@@ -1,5 +1,5 @@
 -- The lines are printable.
-use Rattle.std.proofs.Common.{◌≡◌, ℕ, List, sym, subst, string_bytes}
+use Rattle.std.proofs.Common.{◌≡◌, sym, subst, string_bytes}
 use Rattle.litrs.specs.IntegerLiteral.{integer_parts}
 use Rattle.litrs_explanation.specs.Explanation.{integer_fields, Shows}
 use Rattle.litrs_explanation.proofs.Appending.{appended_as}
