@@ -7,6 +7,7 @@ ghost use Rattle.litrs_lex.specs.Reading.{IsReading, IsReadBody, IsBodyRefused, 
 ghost use Rattle.litrs_lex.specs.Unescaped.{switches};
 
 use crate::allowed::Allows;
+use crate::parse::begins_with_byte;
 use crate::reading::{Reached, Reading, read_items};
 use crate::search::Mask;
 use crate::sink::Counted;
@@ -89,6 +90,10 @@ pub fn items_end<A: Allows>(input: &str, offset: usize, allowed: A) -> usize
     ensures { IsItemsEnd (A.allowed allowed) input.now offset (λ _. ⊤) result }
 {
     let from = beginning(input, offset, allowed);
+    // Tested first, because most bodies have no backslash.
+    if begins_with_byte(input[from.place..].as_bytes(), b'"') {
+        return from.place;
+    }
     match read_items(input, offset, from, allowed, &mut Counted { len: 0 }) {
         Reached::Quote(place) => place,
         Reached::Full(_) => unreachable!(),

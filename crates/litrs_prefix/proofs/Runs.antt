@@ -1,14 +1,15 @@
 -- Names at the front of a text: their ASCII characters are passed by their bytes.
-use Rattle.std.proofs.Common.{◌≡◌, ℕ, suc, ◌+◌, ◌<◌, Bool, true, false, cond, List, [], ◌∷◌, ◌++◌, drop, refl, sym, ap, subst, ◌∙◌, arith}
-use Rattle.std.specs.Prelude.{nat_le, codes, ◌||◌}
-use Rattle.std.specs.List.{prefix_len}
+use Rattle.std.proofs.Common.{◌≡◌, ℕ, suc, ◌+◌, ◌<◌, Bool, true, false, cond, List, [], ◌∷◌, ◌++◌, length, drop, refl, sym, ap, subst, ◌∙◌, arith}
+use Rattle.std.specs.Prelude.{nat_le, ltb}
+use Rattle.std.specs.List.{list_all, prefix_len}
 use Rattle.std.specs.Str.{chars, IsUtf8, IsCharBoundary}
-use Rattle.std.proofs.lemmas.Bool.{true≢false, false_from_ne_true, or_parts}
+use Rattle.std.proofs.lemmas.Bool.{true≢false, false_from_ne_true}
 use Rattle.std.proofs.lemmas.Bool.Decides.{nat_tests}
 use Rattle.std.proofs.lemmas.Str.{IsCharBoundary-from_drop, chars-nil}
 use Rattle.unicode_ident.specs.Ident.{is_xid_continue}
 use Rattle.unicode_ident.proofs.IdentLemmas.{is_xid_continue-ascii}
-use Rattle.litrs_base.proofs.Chars.{chars_ascii, ascii_from_test, begins_with-chars, passing_front, prefix_len-chars}
+use Rattle.litrs_base.proofs.Begins.{begins_with-split, begins_with-append}
+use Rattle.litrs_base.proofs.Chars.{chars_ascii, ascii_from_test, begins_with-chars, begins_front, passing_front, prefix_len-chars}
 use Rattle.litrs_base.proofs.ListTests.{if_true, if_false}
 use Rattle.litrs_base.specs.Text.{begins_with, first_passes}
 use Rattle.litrs_grammar.specs.Bool.{bool_text, is_bool}
@@ -55,19 +56,21 @@ name_ends bs rest n u is back narrow =
 
 -- bools, by their first bytes
 
-begins_as : (b : Bool) (r : List ℕ) → begins_with (codes "tr") (bool_text b ++ r) ≡ false → begins_with (codes "fa") (bool_text b ++ r) ≡ false → ⊥
-begins_as true r tr fa = true≢false tr
-begins_as false r tr fa = true≢false fa
+bool_low : (b : Bool) → list_all (λ c. ltb c 128) (bool_text b) ≡ true
+bool_low true = refl
+bool_low false = refl
 
--- no bool stands at the front, whatever follows it
-pub no_bool_first : (bs : List ℕ) → IsUtf8 bs → (begins_with (codes "tr") bs || begins_with (codes "fa") bs) ≡ false → (b : Bool) (r : List ℕ) → bool_text b ++ r ≡ chars bs → ⊥
-no_bool_first bs u none b r spells =
-    let neither = or_parts (begins_with (codes "tr") bs) (begins_with (codes "fa") bs) none in
-    begins_as b r
-    (ap (begins_with (codes "tr")) spells ∙ (begins_with-chars (codes "tr") bs refl u ∙ neither.0))
-    (ap (begins_with (codes "fa")) spells ∙ (begins_with-chars (codes "fa") bs refl u ∙ neither.1))
+pub bool_front : (bs : List ℕ) (b : Bool) (n : ℕ) → IsUtf8 bs → begins_with (bool_text b) bs ≡ true → n ≡ length (bool_text b) → IsCharBoundary bs n × (bool_text b ++ chars (drop n bs) ≡ chars bs)
+bool_front bs b n u begins is =
+    let word = bool_text b in
+    let f = begins_front word bs (bool_low b) begins u in
+    let spells : word ++ chars (drop (length word) bs) ≡ chars bs =
+    ap (λ (l : List ℕ). word ++ l) (sym f.rest) ∙ begins_with-split word (chars bs) (begins_with-chars word bs (bool_low b) u ∙ begins) in
+    subst (λ (k : ℕ). IsCharBoundary bs k × (word ++ chars (drop k bs) ≡ chars bs)) (sym is) (IsCharBoundary-from_drop bs (length word) f.within f.utf8, spells)
 
-pub no_bool_name : (bs : List ℕ) → IsUtf8 bs → (begins_with (codes "tr") bs || begins_with (codes "fa") bs) ≡ false → is_bool (first_name (chars bs)) ≡ false
+-- no bool is at the front
+pub no_bool_name : (bs : List ℕ) → IsUtf8 bs → ((b : Bool) → begins_with (bool_text b) bs ≡ false) → is_bool (first_name (chars bs)) ≡ false
 no_bool_name bs u none = false_from_ne_true (is_bool (first_name (chars bs))) (λ is.
     let b = some_bool (first_name (chars bs)) is in
-    no_bool_first bs u none b.0 (after_name (chars bs)) (ap (λ (l : List ℕ). l ++ after_name (chars bs)) b.1 ∙ name_and_rest (chars bs)))
+    let spells : bool_text b.0 ++ after_name (chars bs) ≡ chars bs = ap (λ (l : List ℕ). l ++ after_name (chars bs)) b.1 ∙ name_and_rest (chars bs) in
+    true≢false (sym (begins_with-append (bool_text b.0) (after_name (chars bs))) ∙ (ap (begins_with (bool_text b.0)) spells ∙ (begins_with-chars (bool_text b.0) bs (bool_low b.0) u ∙ none b.0))))

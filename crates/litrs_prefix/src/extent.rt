@@ -8,9 +8,10 @@ ghost use Rattle.litrs_prefix.specs.Meant.{after_opened, IsMeant};
 ghost use Rattle.litrs_prefix.specs.Opens.{opens};
 ghost use Rattle.litrs_prefix.specs.Prefix.{HasPrefix, HasNoPrefix};
 
+use crate::follow::ends_bool;
 use crate::malformed::after_opened;
 use crate::next_boundary;
-use crate::opening::opens;
+use crate::opening::{bool_len, opens};
 use crate::piece::follows;
 use crate::plain::{char_extent, number_extent, quoted_extent, raw_extent};
 use litrs_base::{CharKind, split_first_char};
@@ -73,7 +74,7 @@ pub fn opened_extent(text: &str) -> Result<usize, usize>
             } else if c == 'b' {
                 bytes_extent(text, body)
             } else {
-                judged_extent(text)
+                bool_extent(text)
             }
         }
         None => judged_extent(text),
@@ -96,6 +97,26 @@ fn bytes_extent<'a>(text: &'a str, after: &'a str) -> Result<usize, usize>
                 quoted_extent(text, body, StringKind::ByteString)
             } else if c == 'r' {
                 raw_extent(text, body, StringKind::ByteString)
+            } else {
+                judged_extent(text)
+            }
+        }
+        None => judged_extent(text),
+    }
+}
+
+/// Like [`judged_extent`], for a text that may start with a bool.
+fn bool_extent(text: &str) -> Result<usize, usize>
+    requires opens { IsTrue (opens (chars text.now)) }
+    requires only { IsOnlyRest (chars text.now) (after_opened (chars text.now)) }
+    ensures literal { IfOk result (IsLiteralLen text.now) }
+    ensures malformed { IfErr result (IsMalformedLen text.now) }
+{
+    match bool_len(text) {
+        Some(len) => {
+            let (_, rest) = text.split_at(len);
+            if ends_bool(rest) {
+                Ok(len)
             } else {
                 judged_extent(text)
             }

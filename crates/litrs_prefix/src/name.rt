@@ -1,10 +1,11 @@
 //! Names at the front of a text, and the characters that they are made of.
-ghost use Rattle.std.specs.Prelude.{◌≡◌, ◌++◌, nat_le};
-ghost use Rattle.std.specs.Str.{chars, IsUtf8};
+ghost use Rattle.std.specs.Prelude.{◌≡◌, nat_le};
+ghost use Rattle.std.specs.Str.{chars};
+ghost use Rattle.unicode_ident.specs.Ident.{is_xid_continue};
 ghost use Rattle.litrs_base.specs.Text.{first_passes, is_empty};
 ghost use Rattle.litrs_grammar.specs.Suffix.{starts_identifier};
 ghost use Rattle.litrs_prefix.specs.Ends.{IsEndOf};
-ghost use Rattle.litrs_prefix.specs.Opens.{first_name, after_run, after_name, after_hashes};
+ghost use Rattle.litrs_prefix.specs.Opens.{after_run, after_name, after_hashes};
 
 use litrs_base::split_first_char;
 use litrs_lex::{Run, run_end};
@@ -17,22 +18,21 @@ pub fn begins_name(c: char) -> bool
     c == '_' || is_xid_start(c)
 }
 
+/// Returns `true` if `text` starts with a character that can continue a name.
+pub fn continues_name(text: &str) -> bool
+    ensures { result ≡ first_passes is_xid_continue (chars text.now) }
+{
+    match split_first_char(text) {
+        Some((c, _)) => is_xid_continue(c),
+        None => false,
+    }
+}
+
 /// Returns `true` if `text` has no character.
 pub fn is_empty(text: &str) -> bool
     ensures { result ≡ is_empty (chars text.now) }
 {
     text.is_empty()
-}
-
-/// Returns the name at the front of `text`, which is empty if there is none, and the text after it.
-pub fn split_name(text: &str) -> (&str, &str)
-    ensures name { chars result.0.now ≡ first_name (chars text.now) }
-    ensures rest { chars result.1.now ≡ after_name (chars text.now) }
-    ensures spells { result.0.now ++ result.1.now ≡ text.now }
-    ensures utf8 { IsUtf8 result.0.now × IsUtf8 result.1.now }
-{
-    let rest = after_name(text);
-    text.split_at(text.len() - rest.len())
 }
 
 /// Returns the part of `text` after the name at its front: all of it if it starts with none.

@@ -1,14 +1,13 @@
 //! Tests whether a literal begins at the front of a text.
-ghost use Rattle.std.specs.Prelude.{◌≡◌, ◌||◌, codes};
+ghost use Rattle.std.specs.Prelude.{◌≡◌, Bool, length, IsTrue, IsFalse, IfSome, IfNone};
 ghost use Rattle.std.specs.Str.{chars};
 ghost use Rattle.litrs_base.specs.Text.{begins_with, first_passes};
-ghost use Rattle.litrs_grammar.specs.Bool.{is_bool};
+ghost use Rattle.litrs_grammar.specs.Bool.{bool_text, is_bool};
 ghost use Rattle.litrs_grammar.specs.Raw.{is_quote};
 ghost use Rattle.litrs_prefix.specs.Opens.{first_name, begins_lifetime, is_single_quote, opens_raw, opens_c_string, opens_bytes, opens};
 
-use crate::name::{after_hashes, after_name, begins_name, split_name};
+use crate::name::{after_hashes, after_name, begins_name, continues_name};
 use litrs_base::split_first_char;
-use litrs_lex::cut_bool;
 
 /// Returns `true` if a literal begins at the front of `text`, by its first characters: for `12abc`,
 /// `0b12`, `"a`, `b'`, `r#"` and `true`, but not for `abc`, `r#a`, `'a, 'b`, `trueish` and ` 1`.
@@ -90,22 +89,26 @@ pub fn opens_c_string(text: &str) -> bool
 fn opens_bool(text: &str) -> bool
     ensures { result ≡ is_bool (first_name (chars text.now)) }
 {
-    begins_like_bool(text) && is_bool(split_name(text).0)
-}
-
-/// Returns `true` if `text` starts with the first two letters of a bool.
-pub fn begins_like_bool(text: &str) -> bool
-    ensures { result ≡ (begins_with (codes "tr") text.now || begins_with (codes "fa") text.now) }
-{
-    matches!(text.as_bytes(), [b't', b'r', ..] | [b'f', b'a', ..])
-}
-
-/// Returns `true` if `name` is `true` or `false`.
-fn is_bool(name: &str) -> bool
-    ensures { result ≡ is_bool (chars name.now) }
-{
-    match cut_bool(name) {
-        Some(_) => true,
+    match bool_len(text) {
+        Some(len) => {
+            let (_, rest) = text.split_at(len);
+            !continues_name(rest)
+        }
         None => false,
+    }
+}
+
+/// Returns the length in bytes of the bool that `text` starts with, or `None` if there is none. The
+/// name that it begins may be longer.
+pub fn bool_len(text: &str) -> Option<usize>
+    ensures some { IfSome result (λ len. (b : Bool)
+        × IsTrue (begins_with (bool_text b) text.now)
+        × (len ≡ length (bool_text b))) }
+    ensures none { IfNone result ((b : Bool) → IsFalse (begins_with (bool_text b) text.now)) }
+{
+    match text.as_bytes() {
+        [b't', b'r', b'u', b'e', ..] => Some(4),
+        [b'f', b'a', b'l', b's', b'e', ..] => Some(5),
+        _ => None,
     }
 }

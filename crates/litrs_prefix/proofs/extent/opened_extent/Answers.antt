@@ -22,9 +22,9 @@ raw_extent-requires-clause-end c = after_first c.args.text.now c.args.text.now c
 pub bytes_extent-requires-clause-end : goal.bytes_extent-requires-clause-end
 bytes_extent-requires-clause-end c = after_first c.args.text.now c.args.text.now c.in-Some.body.now c.in-Some.c (all c.args.text.now) c.in-Some.ensures.bytes
 
-pub judged_extent-requires-clause-only : goal.judged_extent-requires-clause-only
-judged_extent-requires-clause-only c =
+pub bool_extent-requires-clause-only : goal.bool_extent-requires-clause-only
+bool_extent-requires-clause-only c =
     only_other c.in-Some.c (chars c.args.text.now) (chars c.in-Some.body.now) c.in-Some.ensures.parts (sym c.is_ascii_digit.ensures.value ∙ c.if-is_ascii_digit.false)
 
-pub judged_extent-requires-in-None-clause-only : goal.judged_extent-requires-in-None-clause-only
-judged_extent-requires-in-None-clause-only c = only_nothing (chars c.args.text.now) c.in-None.ensures.empty
+pub judged_extent-requires-clause-only : goal.judged_extent-requires-clause-only
+judged_extent-requires-clause-only c = only_nothing (chars c.args.text.now) c.in-None.ensures.empty

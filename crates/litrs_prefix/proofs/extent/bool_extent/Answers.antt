@@ -1,0 +1,26 @@
+-- A bool is a literal before what may follow it.
+use Rattle.std.proofs.Common.{refl, sym, ap, ◌∙◌}
+use Rattle.std.specs.Str.{chars}
+use Rattle.litrs_grammar.specs.Bool.{bool_text}
+use Rattle.litrs_grammar.specs.Literal.{a_bool}
+use Rattle.litrs_prefix.specs.Prefix.{ends_bool}
+use Rattle.litrs_prefix.proofs.Runs.{bool_front}
+use Rattle.litrs_prefix.proofs.extent.bool_extent.Goals as goal
+
+pub split_at-requires : goal.split_at-requires
+split_at-requires c = let is = c.in-Some.ensures.some in (bool_front c.args.text.now is.0 c.in-Some.len c.utf8.text is.1 is.2).0
+
+pub returns-then-ends_bool-clause-literal : goal.returns-then-ends_bool-clause-literal
+returns-then-ends_bool-clause-literal c =
+    let is = c.in-Some.ensures.some in
+    let front = bool_front c.args.text.now is.0 c.in-Some.len c.utf8.text is.1 is.2 in
+    record {
+      boundary = front.0;
+      literal = a_bool is.0;
+      at_front = record {
+        front = bool_text is.0;
+        spells = front.1;
+        literal = refl;
+        follows = ap (λ l. ends_bool (chars l)) (sym c.split_at.ensures.back) ∙ (sym c.ends_bool.ensures ∙ c.if-ends_bool.true);
+      };
+    }
