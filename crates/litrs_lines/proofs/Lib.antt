@@ -1,4 +1,5 @@
 pub mod StepLemmas
+pub mod PrefixLines
 pub mod OpenTexts
 pub mod OpenBytes
 pub mod Sending

@@ -269,7 +269,7 @@ front_before_line (c ∷ front) x (d ∷ t) others is =
     let found = front_before_line front x t (and_parts (is_other c) (list_all is_other front) others).1 (ap (drop 1) is) in
     (found.0, ap (λ l. c ∷ l) found.1 ∙ ap (λ n. n ∷ t) same)
 
-not_nothing : (a : List ℕ) (c : ℕ) (body : List ℕ) → a ++ c ∷ body ≡ [] → ⊥
+pub not_nothing : (a : List ℕ) (c : ℕ) (body : List ℕ) → a ++ c ∷ body ≡ [] → ⊥
 not_nothing [] c body is = cc
 not_nothing (d ∷ a) c body is = cc
 

@@ -4,7 +4,7 @@ use Rattle.std.specs.Prelude.{IfOk, ◌==◌}
 use Rattle.std.specs.Str.{chars, IsUtf8, IsCharBoundary}
 use Rattle.std.specs.String.Boundary.{IsSplitPoint}
 use Rattle.std.proofs.Math.Seq.{take-append_seam, get_or-append_seam}
-use Rattle.std.proofs.lemmas.Str.{chars-append, IsUtf8-from_ascii, IsCharBoundary-at_seam}
+use Rattle.std.proofs.lemmas.Str.{chars-append, IsUtf8-from_ascii, IsUtf8-take, IsCharBoundary-at_seam}
 use Rattle.std.proofs.lemmas.Bool.{false≢true}
 use Rattle.litrs_base.specs.Derivations.{HasNoDerivation, IsOnlyDerivation}
 use Rattle.litrs_base.specs.Text.{IsText}
@@ -89,10 +89,10 @@ without_line_feed t = without_last-append t 10 [] ∙ append-nil t
 pub nothing_is_held : (held : List ℕ) → held ≡ [] → IsHeld held
 nothing_is_held held none some = absurd (some none)
 
-pub line_is_held : (t held : List ℕ) → held ≡ t ++ 10 ∷ [] → HasNoDerivation (IsLiteral (chars t)) → IsHeld held
-line_is_held t held is none some =
+pub line_is_held : (t held : List ℕ) → held ≡ t ++ 10 ∷ [] → IsUnfinished t → IsHeld held
+line_is_held t held is unfinished some =
     let front : without_last held ≡ t = ap without_last is ∙ without_line_feed t in
-    (ap (λ (x : List ℕ). x ++ 10 ∷ []) front ∙ sym is, subst (λ (x : List ℕ). HasNoDerivation (IsLiteral (chars x))) (sym front) none)
+    (ap (λ (x : List ℕ). x ++ 10 ∷ []) front ∙ sym is, subst IsUnfinished (sym front) unfinished)
 
 -- an open refusal says what closes the text
 closing_text_is_text : (t : List ℕ) (kind : ParseErrorKind) → IsText (closing_text t kind)
@@ -107,7 +107,7 @@ open_begins t e (inr lack) opened = absurd (false≢true (sym (ap (λ (r : Refus
 
 -- what is held after a step
 step_is_held : (t held : List ℕ) (step : Step) → IsStep t step → held ≡ held_after t step → IsHeld held
-step_is_held t held More is after = line_is_held t held after is.0
+step_is_held t held More is after = line_is_held t held after is
 step_is_held t held (Literal lit) is after = nothing_is_held held after
 step_is_held t held (Refused e) is after = nothing_is_held held after
 
@@ -118,7 +118,7 @@ result_is_held t old new (Err e) held fed same = subst IsHeld (sym same) held
 
 -- the text that is held after a line, which is added if a literal continues after it
 pub pushed_is_held : {E : Type 0} (old line new : List ℕ) (r : Result Bool E) → IsHeld old → IfOk r (Pushes old line new) → OnErr r (new ≡ old) → IsHeld new
-pushed_is_held old line new (Ok true) held pushed err = line_is_held (old ++ line) new (pushed.more refl).1 (pushed.more refl).0.0
+pushed_is_held old line new (Ok true) held pushed err = line_is_held (old ++ line) new (pushed.more refl).1 (pushed.more refl).0
 pushed_is_held old line new (Ok false) held pushed err = subst IsHeld (sym (pushed.other refl).1) held
 pushed_is_held old line new (Err e) held pushed err = subst IsHeld (sym err) held
 
@@ -190,7 +190,7 @@ pub lines_of_held : (held left : List ℕ) (n m : ℕ) → IsHeld held → n ≡
 lines_of_held held left n m is len some pops =
     let lines = is (λ none. let zero : length held ≡ 0 = ap length none in absurd (omega arith)) in
     let same : left ≡ without_last held = popped held (without_last held) left n len lines.0 pops in
-    (ap (λ (x : List ℕ). x ++ 10 ∷ []) same ∙ lines.0, subst (λ (x : List ℕ). HasNoDerivation (IsLiteral (chars x))) (sym same) lines.1)
+    (ap (λ (x : List ℕ). x ++ 10 ∷ []) same ∙ lines.0, subst (λ (x : List ℕ). HasNoDerivation (IsLiteral (chars x))) (sym same) lines.1.0)
 
 -- the place where a longer text was one may be cut
 pub may_be_cut : (old new : List ℕ) (len : ℕ) → Extends old new → len ≡ length old → IsSplitPoint new len
@@ -218,3 +218,11 @@ cut_of_held held test is tests fails =
     let some : length held ≡ 0 → ⊥ = λ e. let yes : (length held == 0) ≡ true = ap (λ (k : ℕ). k == 0) e in let both : true ≡ false = sym yes ∙ sym tests ∙ fails in cc in
     let len : (length held - 1) + 1 ≡ length held = omega arith in
     held_is_cut held (length held - 1) is len
+
+-- the lines that are held are a text
+pub lines_are_utf8 : (held : List ℕ) → IsHeld held → IsUtf8 held → (held ≡ [] → ⊥) → IsUtf8 (without_last held)
+lines_are_utf8 held is u some =
+    let lines = is some in
+    let end = length (without_last held) in
+    let front : take end held ≡ without_last held = ap (take end) (sym lines.0) ∙ take-append_seam (without_last held) (10 ∷ []) in
+    subst IsUtf8 front (IsUtf8-take held end u (IsCharBoundary-at_seam held (without_last held) (10 ∷ []) (sym lines.0) line_feed_is_utf8))

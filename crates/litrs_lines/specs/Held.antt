@@ -3,21 +3,21 @@ use Rattle.std.specs.Prelude.{◌≡◌, ℕ, List, [], ◌∷◌, ◌++◌}
 use Rattle.std.specs.Str.{chars, IsUtf8}
 use Rattle.litrs_base.specs.Characters.{line_feed}
 use Rattle.litrs_base.specs.declared.err.ParseError.{ParseError}
-use Rattle.litrs_base.specs.Derivations.{HasNoDerivation}
-use Rattle.litrs_grammar.specs.Literal.{IsLiteral, literal_parse}
+use Rattle.litrs_grammar.specs.Literal.{literal_parse}
 use Rattle.litrs_grammar.specs.Quoted.{without_last}
 use Rattle.litrs_grammar.specs.Refused.{IsRefused}
+use Rattle.litrs_lines.specs.Steps.{IsUnfinished}
 
 -- The new text is the old one with some text after it.
 abbrev pub Extends : List ℕ → List ℕ → Type 0
 Extends old new = (more : List ℕ) × IsUtf8 more × (new ≡ old ++ more)
 
--- Nothing is held, or lines that are not a literal, with an LF after each. `without_last` removes
--- the LF after the last line.
+-- Nothing is held, or lines that are unfinished, with an LF after each. `without_last` removes the
+-- LF after the last line.
 abbrev pub IsHeld : List ℕ → Type 0
 IsHeld held = (held ≡ [] → ⊥) →
     (without_last held ++ line_feed ∷ [] ≡ held)
-    × HasNoDerivation (IsLiteral (chars (without_last held)))
+    × IsUnfinished (without_last held)
 
 -- The refusal of the lines that are held, without the LF after the last.
 abbrev pub IsRefusalOfHeld : List ℕ → ParseError → Type 0

@@ -5,6 +5,7 @@ pub mod Open
 -- steps
 pub mod Steps
 pub mod StepLaws
+pub mod PrefixSteps
 -- the calls of any device
 pub mod Devices
 -- devices over memory
@@ -38,3 +39,7 @@ pub use Rattle.litrs_base.specs.Refusal
 pub use Rattle.litrs_grammar.specs.Literal
 pub use Rattle.litrs_grammar.specs.Refused
 pub use Rattle.litrs.specs.LiteralDerivation
+pub use Rattle.litrs_prefix.specs.Ends
+pub use Rattle.litrs_prefix.specs.Malformed
+pub use Rattle.litrs_prefix.specs.Opens
+pub use Rattle.litrs_prefix.specs.Prefix

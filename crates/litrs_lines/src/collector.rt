@@ -8,12 +8,15 @@ ghost use Rattle.std.specs.Str.{chars, IsUtf8};
 ghost use Rattle.litrs_base.specs.Characters.{line_feed};
 ghost use Rattle.litrs_grammar.specs.Literal.{literal_parse};
 ghost use Rattle.litrs_grammar.specs.Refused.{IsRefused};
+ghost use Rattle.litrs_prefix.specs.Ends.{IsEndOf};
 ghost use Rattle.litrs_lines.specs.Held.{IsHeld, IsRefusalOfHeld};
 ghost use Rattle.litrs_lines.specs.Open.{IsAfter, IsReadToLastLine};
+ghost use Rattle.litrs_lines.specs.PrefixSteps.{EndsInLine, IsAfterLiteral, IsFront, IsHeldBefore, IsPrefixStep, held_after_prefix};
 ghost use Rattle.litrs_lines.specs.Steps.{BeginsByLine, IsLiteralStep, IsReadAs, IsStep, held_after, Feeds, Pushes};
 
 use crate::collector::body::{Open, open_after};
 use litrs::{Literal, ParseError, ParseErrorKind};
+use litrs_prefix::{MalformedPrefix, parse_prefix};
 use std::alloc::{AllocError, Global};
 use std::marker::Model;
 use std::mem;
@@ -30,6 +33,19 @@ pub enum Step {
     Literal(Literal<String>),
     /// The lines are not a literal, and no line after them makes them one.
     Refused(ParseError),
+}
+
+/// The result of feeding a line to a [`Collector`] by [`Collector::feed_prefix`].
+#[derive(Drop)]
+pub enum PrefixStep<'a> {
+    /// The lines are not a literal, and begin one that continues in the next line.
+    More,
+    /// The literal at the front of the lines, and the rest of the line.
+    Literal(Literal<String>, &'a str),
+    /// No literal begins at the front of the lines.
+    NoLiteral,
+    /// A literal begins at the front of the lines, and none is valid.
+    Malformed(MalformedPrefix),
 }
 
 /// The lines that begin a literal, in the order in which they were fed.
@@ -133,6 +149,35 @@ impl Collector {
             return Ok(None);
         }
         Ok(Some(self.feed(line)?))
+    }
+
+    /// Like [`Collector::feed`], but more text may follow the literal: returns the literal at the
+    /// front of the lines, and the rest of `line` after it. The literal is the one that
+    /// [`parse_prefix`] finds.
+    ///
+    /// For `"a` the result is `More`. For `b" + 1` after it, the result is the literal, `"a` and
+    /// `b"` joined by LF, and the rest ` + 1`.
+    ///
+    /// The result is `More` if and only if that of `feed` is. After the other results no line is
+    /// held. The call does not allocate more often than `feed`.
+    ///
+    /// # Errors
+    ///
+    /// `AllocError` if an allocation fails. Then the lines held are those of before the call.
+    pub fn feed_prefix<'a>(&mut self, line: &'a str) -> Result<PrefixStep<'a>, AllocError>
+        ensures step { IfOk result (IsPrefixStep (self.old ++ line.now)) }
+        ensures rest { IfOk result (EndsInLine line.now) }
+        ensures held { IfOk result (λ step.
+            self.new ≡ held_after_prefix (self.old ++ line.now) step) }
+        ensures err { OnErr result (self.new ≡ self.old) }
+    {
+        if self.push(line)? {
+            return Ok(PrefixStep::More);
+        }
+        if self.is_empty() {
+            return front(*self.held.allocator(), line, line);
+        }
+        front_of_added(&mut self.held, &mut self.known, line)
     }
 
     /// Like [`Collector::feed`], if no line is held. A literal is copied once it is known to be
@@ -387,6 +432,66 @@ fn read_added(held: &mut String, known: &mut Option<Open>, line: &str) -> Result
             held.clear();
             *known = None;
             Ok(Step::Refused(e))
+        }
+        Err(error) => {
+            held.truncate(len);
+            Err(error)
+        }
+    }
+}
+
+/// Parses the literal at the front of `text`, which ends with `line`.
+fn front<'a>(alloc: Global, text: &str, line: &'a str) -> Result<PrefixStep<'a>, AllocError>
+    requires { IsHeldBefore line.now text.now }
+    ensures step { IfOk result (IsFront text.now) }
+    ensures rest { IfOk result (EndsInLine line.now) }
+{
+    match parse_prefix(alloc, text) {
+        Ok(Some(prefix)) => {
+            let rest = end_of(line, prefix.rest);
+            Ok(PrefixStep::Literal(prefix.literal.into_owned(alloc)?, rest))
+        }
+        Ok(None) => Ok(PrefixStep::NoLiteral),
+        Err(malformed) => match malformed.error.kind() {
+            ParseErrorKind::OutOfMemory => Err(AllocError),
+            _ => Ok(PrefixStep::Malformed(malformed)),
+        },
+    }
+}
+
+/// Returns the end of `line` that is `rest`, the rest after a literal.
+fn end_of<'a>(line: &'a str, rest: &str) -> &'a str
+    requires { IsAfterLiteral line.now rest.now }
+    ensures rest { result.now ≡ rest.now }
+    ensures end { IsEndOf line.now result.now }
+{
+    let start = line.len() - rest.len();
+    let (_, end) = line.split_at(start);
+    end
+}
+
+/// Adds `line` to the held text and parses the literal at its front. Then the text is empty, but
+/// after an error it is as before.
+fn front_of_added<'a>(
+    held: &mut String,
+    known: &mut Option<Open>,
+    line: &'a str,
+) -> Result<PrefixStep<'a>, AllocError>
+    requires held { IsHeld (string_bytes held.old) }
+    requires known { IsReadToLastLine (string_bytes held.old) known.old }
+    ensures step { IfOk result (IsFront (string_bytes held.old ++ line.now)) }
+    ensures rest { IfOk result (EndsInLine line.now) }
+    ensures held { OnOk result (string_bytes held.new ≡ []) }
+    ensures err { OnErr result (string_bytes held.new ≡ string_bytes held.old) }
+    ensures known { IsReadToLastLine (string_bytes held.new) known.new }
+{
+    let len = held.len();
+    held.push_str(line)?;
+    match front(*held.allocator(), held.as_str(), line) {
+        Ok(step) => {
+            held.clear();
+            *known = None;
+            Ok(step)
         }
         Err(error) => {
             held.truncate(len);

@@ -9,7 +9,7 @@ ghost use Rattle.litrs_lines.specs.Ended.{AreEndedReports, AreLastReports};
 ghost use Rattle.litrs_lines.specs.Reports.{AppendsReports};
 ghost use Rattle.litrs_lines.specs.Sent.{NamesFailure, WritesBytes, Leaves};
 
-pub use collector::{Collector, Step};
+pub use collector::{Collector, PrefixStep, Step};
 pub use device::{Failed, Input, Output};
 use group::Reporter;
 pub use mem_input::MemInput;

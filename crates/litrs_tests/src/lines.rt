@@ -1,4 +1,5 @@
-//! `run` and its devices.
+//! `run` and its devices; lines with more text after a literal.
 mod devices;
 mod inputs;
+mod prefixes;
 mod runs;
