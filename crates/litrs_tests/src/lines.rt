@@ -1,4 +1,3 @@
 //! `run` and its devices.
 mod devices;
 mod inputs;
-mod runs;
