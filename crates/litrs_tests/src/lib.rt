@@ -10,23 +10,11 @@ mod built_numbers;
 #[cfg(test)]
 mod built_raws;
 #[cfg(test)]
-mod containers;
-#[cfg(test)]
-mod errors;
-#[cfg(test)]
 mod labels;
 #[cfg(test)]
 mod lines;
 #[cfg(test)]
-mod mismatches;
-#[cfg(test)]
-mod printed;
-#[cfg(test)]
 mod printing;
-#[cfg(test)]
-mod rooms;
-#[cfg(test)]
-mod searches;
 #[cfg(test)]
 mod shown;
 #[cfg(test)]

@@ -2,4 +2,3 @@
 mod devices;
 mod inputs;
 mod prefixes;
-mod runs;

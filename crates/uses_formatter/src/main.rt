@@ -75,6 +75,7 @@ fn written(alloc: Global, lit: &Literal<&str>) -> Result<String, AllocError>
         let text = String::from_str(alloc, anew.raw_input())?;
         return Ok(text);
     }
+    // bounded by the length of the text that is written.
     let text = rewritten(alloc, lit, &STYLE)?;
     Ok(text)
 }
