@@ -43,7 +43,8 @@ unescaped (a_string d) = a_string (unescaped_string string_kind d)
 unescaped (a_byte_string d) = a_byte_string (unescaped_string byte_string_kind d)
 unescaped (a_c_string d) = a_c_string (unescaped_string c_string_kind d)
 
--- Without `_`, the parts of the floats are the same, but for the case of the letter of the exponent.
+-- Without `_`, the parts of the floats are the same, but for the case of the letter of the
+-- exponent.
 pub record HaveSameNumber (d e : FloatParts) : Type 0 where
   pub integer : filter is_no_underscore d.integer ≡ filter is_no_underscore e.integer
   pub fraction : option_map (filter is_no_underscore) d.fraction

@@ -11,7 +11,7 @@ ghost use Rattle.std.specs.Str.{chars};
 ghost use Rattle.litrs.specs.Derivations.{HasNoDerivation};
 ghost use Rattle.litrs.specs.Literal.{IsLiteral};
 ghost use Rattle.litrs.specs.LiteralDerivation.{derivation};
-ghost use Rattle.uses_formatter.specs.Form.{is_raw_literal, IsForm, IsFormOf};
+ghost use Rattle.uses_formatter.specs.Form.{is_raw_literal, style, IsForm, IsFormOf};
 
 use litrs::{Literal, ParseErrorKind};
 use litrs_build::{
@@ -20,31 +20,10 @@ use litrs_build::{
 };
 use std::alloc::{AllocError, Global};
 
-/// The style of literals that are not raw.
-const STYLE: Style = Style {
-    escapes: Escapes::Needed,
-    escape_digits: Case::Lower,
-    lines: Lines::Kept,
-    digits: Some(Case::Lower),
-    groups: Groups::Regrouped(GroupLens {
-        binary: 4,
-        octal: 4,
-        decimal: 3,
-        hexadecimal: 4,
-    }),
-    exponents: Some(Case::Lower),
-    float_groups: FloatGroups::Regrouped(FloatGroupLens {
-        integer: 3,
-        fraction: 3,
-        exponent: 3,
-    }),
-};
-
 fn main(rt: HostRuntime) -> anyhow::Result<()> {
     for line in rt.lines(rt.alloc()) {
         let line = line?;
-        let form = formatted(rt.alloc(), line.as_str())?;
-        println!(rt; "{}", form.unwrap_or(line))?;
+        println!(rt; "{}", formatted(rt.alloc(), line.as_str())?.unwrap_or(line))?;
     }
     Ok(())
 }
@@ -75,8 +54,7 @@ fn written(alloc: Global, lit: &Literal<&str>) -> Result<String, AllocError>
         let text = String::from_str(alloc, anew.raw_input())?;
         return Ok(text);
     }
-    // bounded by the length of the text that is written.
-    let text = rewritten(alloc, lit, &STYLE)?;
+    let text = rewritten(alloc, lit, &style())?;
     Ok(text)
 }
 
@@ -89,5 +67,29 @@ fn is_raw(lit: &Literal<&str>) -> bool
         Literal::ByteString(lit) => lit.is_raw_byte_string(),
         Literal::CString(lit) => lit.is_raw_c_string(),
         _ => false,
+    }
+}
+
+/// Returns the style of literals that are not raw.
+fn style() -> Style
+    ensures { result ≡ style }
+{
+    Style {
+        escapes: Escapes::Needed,
+        escape_digits: Case::Lower,
+        lines: Lines::Kept,
+        digits: Some(Case::Lower),
+        groups: Groups::Regrouped(GroupLens {
+            binary: 4,
+            octal: 4,
+            decimal: 3,
+            hexadecimal: 4,
+        }),
+        exponents: Some(Case::Lower),
+        float_groups: FloatGroups::Regrouped(FloatGroupLens {
+            integer: 3,
+            fraction: 3,
+            exponent: 3,
+        }),
     }
 }

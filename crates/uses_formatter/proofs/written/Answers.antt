@@ -3,7 +3,9 @@ use Rattle.std.proofs.Common.{◌≡◌, List, ℕ, sym, ap, subst, ◌∙◌, s
 use Rattle.std.specs.Str.{chars}
 use Rattle.litrs.specs.Literal.{Derivation, IsLiteral, suffix_of}
 use Rattle.litrs.specs.LiteralDerivation.{derivation, literal_raw}
+use Rattle.litrs_build.specs.Rewriting.{rewritten}
 use Rattle.litrs_build.specs.WrittenAnew.{HaveSameValue, unescaped}
+use Rattle.litrs_build.specs.declared.style.Style.{Style}
 use Rattle.uses_formatter.proofs.Raw.{raw_form, other_form}
 use Rattle.uses_formatter.proofs.written.Goals as goal
 
@@ -23,6 +25,12 @@ returns-then-is_raw c =
 
 pub returns : goal.returns
 returns c =
+    let d = derivation c.args.lit.now in
+    let text = chars (string_bytes c.in_ok-text-2.text) in
     let says = c.in_ok-text-2.ensures in
-    other_form (derivation c.args.lit.now) (chars (string_bytes c.in_ok-text-2.text))
-    (sym c.is_raw.ensures ∙ c.if-is_raw.false) says.literal says.value says.suffix says.again
+    let is = c.style.ensures in
+    other_form d text (sym c.is_raw.ensures ∙ c.if-is_raw.false)
+    (subst (λ (s : Style). IsLiteral text (rewritten s d)) is says.literal)
+    (subst (λ (s : Style). HaveSameValue d (rewritten s d)) is says.value)
+    (subst (λ (s : Style). suffix_of (rewritten s d) ≡ suffix_of d) is says.suffix)
+    (subst (λ (s : Style). rewritten s (rewritten s d) ≡ rewritten s d) is says.again)
