@@ -1,5 +1,6 @@
 //! A message on a range of a text.
 ghost use Rattle.std.specs.Prelude.{◌≡◌, ◌≤◌};
+ghost use Rattle.std.specs.List.{All};
 ghost use Rattle.std.specs.Str.{IsCharBoundary};
 
 use crate::label::Label;
@@ -54,6 +55,8 @@ pub struct Diagnostic<'a> {
     pub ghost end_cuts: { IsCharBoundary source.now end },
     /// The start is at most the end.
     pub ghost in_order: { start ≤ end },
+    /// The labels are on this text.
+    pub ghost labels_on_text: { All (λ label. label.source.now ≡ source.now) labels.now },
 }
 
 impl<'a> Diagnostic<'a> {
@@ -133,6 +136,7 @@ impl<'a> Diagnostic<'a> {
     /// Those on earlier lines are shown above the range, the others below its first line. If the
     /// labels are in the order of the text, all lines are.
     pub fn with_labels(self, labels: &'a [Label<'a>]) -> Diagnostic<'a>
+        requires { All (λ label. label.source.now ≡ self.source.now) labels.now }
         ensures { message_of result
             ≡ record (message_of self.entry) { labels = map label_of labels.now } }
     {

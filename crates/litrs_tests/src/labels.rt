@@ -1,10 +1,16 @@
 //! Messages with labels, and messages in color.
+ghost use Rattle.std.specs.Prelude.{◌≡◌};
+ghost use Rattle.std.specs.List.{All};
+
 use litrs_diagnostic::{Diagnostic, Label, Level, Remark, shown, shown_in_color};
 use std::alloc::{AllocError, Global};
 use std::process::Abort;
 
-/// Ranges in bytes, each with its label.
-type Marks = &'static [(usize, usize, &'static str)];
+/// A range in bytes, and its label.
+type Mark = (usize, usize, &'static str);
+
+/// Several ranges.
+type Marks = &'static [Mark];
 
 /// Texts, the number of columns that are shown, and ranges with labels: first that of the message.
 const ROWS: &[(&str, usize, Marks)] = &[
@@ -171,37 +177,64 @@ const COLORED: &str = concat!(
     "\x1b[1;34m  =\x1b[0m help: none\n",
 );
 
-/// Returns the lines of a message with labels, or `None` if a range is not in the text.
-fn lines(
-    alloc: Global,
-    source: &str,
-    width: usize,
-    marks: Marks,
-) -> Result<Option<String>, AllocError> {
-    let mut labels = Vec::new(alloc);
-    for (start, end, label) in marks {
-        let (start, end) = (*start, *end);
-        if start > end || !source.is_char_boundary(start) || !source.is_char_boundary(end) {
-            return Ok(None);
-        }
-        labels.push(Label::new(source, start..end, label))?;
+/// Returns a label on a range of `source`, or on its end if the range is not in it.
+fn label_on<'a>(source: &'a str, mark: &Mark) -> Label<'a>
+    ensures { result.source.now ≡ source.now }
+{
+    let (start, end, label) = *mark;
+    if start <= end && source.is_char_boundary(start) && source.is_char_boundary(end) {
+        Label::new(source, start..end, label)
+    } else {
+        Label::new(source, source.len()..source.len(), "not in the text")
     }
-    let Some((first, others)) = labels.as_slice().split_first() else {
-        return Ok(None);
-    };
+}
+
+/// Returns the lines of a message on the range of `first`, with labels.
+fn lines_on(
+    alloc: Global,
+    first: Label,
+    width: usize,
+    labels: &[Label],
+) -> Result<String, AllocError>
+    requires { All (λ label. label.source.now ≡ first.source.now) labels.now }
+{
     let diagnostic = Diagnostic::new("row", first.source, first.start..first.end, "here")
         .with_width(width)
         .with_label(first.text)
-        .with_labels(others);
-    let written = shown(alloc, &diagnostic)?;
-    Ok(Some(written))
+        .with_labels(labels);
+    shown(alloc, &diagnostic)
+}
+
+/// Returns the lines of a message with one to three labels, or an empty text.
+fn lines(alloc: Global, source: &str, width: usize, marks: Marks) -> Result<String, AllocError> {
+    match marks {
+        [first, a] => lines_on(
+            alloc,
+            label_on(source, first),
+            width,
+            &[label_on(source, a)],
+        ),
+        [first, a, b] => {
+            let labels = [label_on(source, a), label_on(source, b)];
+            lines_on(alloc, label_on(source, first), width, &labels)
+        }
+        [first, a, b, c] => {
+            let labels = [
+                label_on(source, a),
+                label_on(source, b),
+                label_on(source, c),
+            ];
+            lines_on(alloc, label_on(source, first), width, &labels)
+        }
+        _ => Ok(String::new(alloc)),
+    }
 }
 
 /// Returns `true` if these lines are shown of a row, but for the last LF.
 fn is_shown(alloc: Global, (source, width, marks): (&str, usize, Marks), expected: &str) -> bool {
     match lines(alloc, source, width, marks) {
-        Ok(Some(shown)) => shown.strip_suffix('\n') == Some(expected),
-        _ => false,
+        Ok(shown) => shown.as_str().strip_suffix('\n') == Some(expected),
+        Err(_) => false,
     }
 }
 

@@ -1,5 +1,6 @@
 //! Rows on messages with labels, and on places in a text.
-ghost use Rattle.std.specs.Prelude.{◌≡◌};
+ghost use Rattle.std.specs.Prelude.{◌≡◌, IfOk, IfSome};
+ghost use Rattle.std.specs.List.{All};
 
 use crate::parses::fails;
 use crate::rows::Row;
@@ -66,31 +67,44 @@ pub fn try_message(trial: &mut Trial, row: &Row) {
 
 /// Tries the message on the first of these ranges with labels, where the others are further ones.
 fn try_marks(trial: &mut Trial, text: &str, marks: &str, wanted: &str) {
-    let labels = read_labels(trial.alloc, text, marks);
-    match trial.own(labels) {
-        Some(Some(labels)) => try_labels(trial, labels.as_slice(), wanted),
-        Some(None) => trial.check(false, "has no such range"),
-        None => {}
+    let (mark, _) = marks.split_once('|').unwrap_or((marks, ""));
+    match read_label(text, mark) {
+        Some(first) => try_labels(trial, first, marks, wanted),
+        None => trial.check(false, "has no such range"),
     }
 }
 
-/// Tries the message on the range of the first label, with the other labels.
-fn try_labels(trial: &mut Trial, labels: &[Label], wanted: &str) {
-    if let Some((first, others)) = labels.split_first() {
-        let diagnostic = Diagnostic::new("row", first.source, first.start..first.end, "here")
-            .with_label(first.text)
-            .with_labels(others);
-        again!(
-            trial,
-            "shown",
-            is_message_refused(trial, &diagnostic, wanted)
-        );
-        again!(
-            trial,
-            "shown_in_color",
-            fails(shown_in_color(trial.alloc, &diagnostic))
-        );
+/// Tries the message on the range of the label `first` with those of `marks` after it.
+fn try_labels(trial: &mut Trial, first: Label, marks: &str, wanted: &str) {
+    match read_labels(trial.alloc, first.source, marks) {
+        Ok(found) => match found {
+            Some(labels) => {
+                let range = first.start..first.end;
+                let diagnostic = Diagnostic::new("row", first.source, range, "here")
+                    .with_label(first.text)
+                    .with_labels(labels.as_slice());
+                try_diagnostic(trial, &diagnostic, wanted);
+            }
+            None => trial.check(false, "has no such range"),
+        },
+        Err(refusal) => {
+            let _ = trial.own::<()>(Err(refusal));
+        }
     }
+}
+
+/// Tries a message.
+fn try_diagnostic(trial: &mut Trial, diagnostic: &Diagnostic, wanted: &str) {
+    again!(
+        trial,
+        "shown",
+        is_message_refused(trial, diagnostic, wanted)
+    );
+    again!(
+        trial,
+        "shown_in_color",
+        fails(shown_in_color(trial.alloc, diagnostic))
+    );
 }
 
 /// Shows a message. Returns `true` if memory was refused.
@@ -104,14 +118,18 @@ fn is_message_refused(trial: &mut Trial, diagnostic: &Diagnostic, wanted: &str) 
     }
 }
 
-/// Reads the ranges of a text, each with its label, or `None` if one is not in the text.
+/// Reads the ranges of a text after the first, each with its label, or `None` if one is not in the
+/// text.
 fn read_labels<'a>(
     alloc: Global,
     text: &'a str,
     marks: &'a str,
-) -> Result<Option<Vec<Label<'a>>>, AllocError> {
+) -> Result<Option<Vec<Label<'a>>>, AllocError>
+    ensures { IfOk result (λ found. IfSome found (λ labels.
+        All (λ label. label.source.now ≡ text.now) labels.items)) }
+{
     let mut labels = Vec::new(alloc);
-    for mark in marks.split('|') {
+    for mark in marks.split('|').skip(1) {
         match read_label(text, mark) {
             Some(label) => labels.push(label)?,
             None => return Ok(None),
@@ -121,7 +139,9 @@ fn read_labels<'a>(
 }
 
 /// Reads a range of a text, and its label.
-fn read_label<'a>(text: &'a str, mark: &'a str) -> Option<Label<'a>> {
+fn read_label<'a>(text: &'a str, mark: &'a str) -> Option<Label<'a>>
+    ensures { IfSome result (λ label. label.source.now ≡ text.now) }
+{
     let (range, label) = mark.split_once('=')?;
     let (start, end) = range.split_once("..")?;
     let start = start.parse::<usize>().ok()?;
