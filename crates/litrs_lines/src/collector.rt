@@ -159,7 +159,7 @@ impl Collector {
     /// `b"` joined by LF, and the rest ` + 1`.
     ///
     /// The result is `More` if and only if that of `feed` is. After the other results no line is
-    /// held. The call does not allocate more often than `feed`.
+    /// held. The call allocates like `feed` for the lines without the rest.
     ///
     /// # Errors
     ///
