@@ -20,8 +20,7 @@ Explains each Rust literal that you type, such as 0xFF_u8 or 'a', or shows the e
 A string may continue over several lines.
 
 :cancel           drops the lines of a string that is not complete
-:quit or Ctrl-D   ends
-";
+:quit or Ctrl-D   ends\n";
 
 /// The answer to the first line of a literal that continues on the next line.
 const HINT: &str =
@@ -48,11 +47,7 @@ fn answer_to(alloc: Global, text: &str) -> Result<String, AllocError>
 fn drops(collector: &Collector, line: &str) -> bool
     ensures { IsTrue result ↔ Drops collector.now line.now }
 {
-    if collector.is_empty() {
-        line.is_empty()
-    } else {
-        line == ":cancel"
-    }
+    line == if collector.is_empty() { "" } else { ":cancel" }
 }
 
 /// Returns the answer to a line.
@@ -61,8 +56,7 @@ fn drops(collector: &Collector, line: &str) -> bool
 ///
 /// `AllocError` if an allocation fails.
 fn answer(alloc: Global, collector: &mut Collector, line: &str) -> Result<String, AllocError>
-    ensures { IfOk result (λ answer.
-        IsAnswered collector.old line.now collector.new (string_bytes answer)) }
+    ensures { IfOk result (λ a. IsAnswered collector.old line.now collector.new (string_bytes a)) }
 {
     if drops(collector, line) {
         collector.clear();
@@ -84,7 +78,7 @@ fn last_answer(alloc: Global, collector: Collector) -> Result<String, AllocError
     let text = String::from_str(alloc, collector.text())?;
     match collector.finish() {
         Some(error) => shown_refusal(alloc, "prompt", text.as_str(), &error, 100),
-        None => Ok(String::new(alloc)),
+        None => Ok(text),
     }
 }
 
@@ -93,12 +87,8 @@ fn last_answer(alloc: Global, collector: Collector) -> Result<String, AllocError
 ///
 /// # Errors
 ///
-/// `AllocError` if an allocation fails.
-fn reply(
-    alloc: Global,
-    collector: &mut Collector,
-    line: &[u8],
-) -> Result<Option<String>, AllocError>
+/// An error if an allocation fails.
+fn reply(alloc: Global, collector: &mut Collector, line: &[u8]) -> io::Result<Option<String>>
     ensures quits { IfOk result (λ reply. IsNone reply ↔ Quits line.now) }
     ensures answered { IfOk result (λ reply. IfSome reply (λ answer.
         IsReply collector.old line.now collector.new (string_bytes answer))) }
@@ -108,10 +98,7 @@ fn reply(
             ":quit" => Ok(None),
             line => Ok(Some(answer(alloc, collector, line)?)),
         },
-        Err(e) => {
-            let place = e.valid_up_to();
-            Ok(Some(format!(in alloc; "not UTF-8 at byte {place}: ignored\n")?))
-        }
+        Err(e) => Ok(Some(format!(in alloc; "not UTF-8 at byte {}: ignored\n", e.valid_up_to())?)),
     }
 }
 
@@ -120,17 +107,16 @@ fn run(rt: &HostRuntime) -> io::Result<()> {
     if env::args(rt)?.any(|word| word.as_str() == "--help") {
         return print!(rt; "{HELP}");
     }
-    let alloc = rt.alloc();
-    let mut collector = Collector::new(alloc);
+    let mut collector = Collector::new(rt.alloc());
     print!(rt; "> ")?;
-    for line in rt.reader().split(alloc, b'\n') {
-        let Some(answer) = reply(alloc, &mut collector, line?.as_slice())? else {
+    for line in rt.reader().split(rt.alloc(), b'\n') {
+        let Some(answer) = reply(rt.alloc(), &mut collector, line?.as_slice())? else {
             return Ok(());
         };
         let sign = if collector.is_empty() { "> " } else { ". " };
         print!(rt; "{answer}{sign}")?;
     }
-    print!(rt; "\n{}", last_answer(alloc, collector)?)
+    print!(rt; "\n{}", last_answer(rt.alloc(), collector)?)
 }
 
 fn main(rt: HostRuntime) -> io::Result<()> {
