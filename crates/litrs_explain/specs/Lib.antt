@@ -1,2 +1,4 @@
 -- the report on a literal
 pub mod Report
+-- places in a text
+pub mod Places

@@ -1,8 +1,10 @@
 //! Explains the literals of a file line by line.
-ghost use Rattle.std.specs.Prelude.{◌↔◌, IsTrue};
-ghost use Rattle.std.specs.Str.{chars};
+ghost use Rattle.std.specs.Prelude.{◌≡◌, ◌≤◌, ◌↔◌, IfOk, IsTrue, slice_range, string_bytes};
+ghost use Rattle.std.specs.Str.{chars, IsCharBoundary};
+ghost use Rattle.litrs_base.specs.CharEnd.{IsCutBy};
 ghost use Rattle.litrs_grammar.specs.Literal.{literal_parse, Begins};
 ghost use Rattle.litrs_grammar.specs.Refused.{IsRefusedOrOutOfMemory};
+ghost use Rattle.litrs_explain.specs.Places.{IsTokenOf, IsMark, AreMarks};
 
 use crate::error::Error;
 use crate::find::next_token;
@@ -11,7 +13,7 @@ use crate::options::Options;
 use crate::output::Output;
 use crate::place::{Place, Span};
 use crate::report::{AROUND, Problem, Reports};
-use crate::text::{cut, without_line_end};
+use crate::text::without_line_end;
 use litrs::{Literal, ParseError, ParseErrorKind};
 use litrs_lexer::{Token, TokenKind, Tokens};
 use litrs_lines::Collector;
@@ -31,8 +33,10 @@ pub(crate) struct Explainer<'a> {
     collector: Collector,
     /// The open last token of `held`, if literals are found in any text.
     open: Option<Open>,
-    /// The lines of an incomplete token, and a part of the first line before it.
+    /// The lines of an incomplete token.
     held: String,
+    /// A part of the line before it.
+    before: String,
     /// The place in the file of the text that is read: the line, after what is held.
     place: Place,
     /// The start of what is incomplete, or of the line if nothing is.
@@ -57,6 +61,7 @@ impl<'a> Explainer<'a> {
             collector: Collector::new(alloc),
             open: None,
             held: String::new(alloc),
+            before: String::new(alloc),
             place: Place::START,
             opening: Offset::START,
             lines: Vec::new(alloc),
@@ -72,6 +77,7 @@ impl<'a> Explainer<'a> {
         self.collector.clear();
         self.open = None;
         self.held.clear();
+        self.before.clear();
         self.unreadable = 0;
         self.next = Place::START;
         self.next_in_file = 0;
@@ -106,8 +112,8 @@ impl<'a> Explainer<'a> {
     /// As [`Explainer::feed`].
     pub(crate) fn finish(&mut self) -> Result<(), Error> {
         if self.open.take().is_some() {
-            let text = mem::replace(&mut self.held, String::new(self.alloc));
-            self.explain_tokens(text.as_str(), true)?;
+            let (text, start) = self.take_held()?;
+            self.explain_tokens(text.as_str(), start, true)?;
         }
         if self.collector.is_empty() {
             return Ok(());
@@ -157,12 +163,9 @@ impl<'a> Explainer<'a> {
     }
 
     /// Like [`Explainer::explain_text`], for a text with this error.
-    fn explain_error(
-        &mut self,
-        text: &str,
-        is_first: bool,
-        error: &ParseError,
-    ) -> Result<(), Error> {
+    fn explain_error(&mut self, text: &str, is_first: bool, error: &ParseError) -> Result<(), Error>
+        requires { IsRefusedOrOutOfMemory literal_parse (chars text.now) error.now }
+    {
         if is_first && !error.is_final() && self.collector.push(text)? {
             return Ok(());
         }
@@ -173,32 +176,46 @@ impl<'a> Explainer<'a> {
     fn feed_tokens(&mut self, line: &str) -> Result<(), Error> {
         let Some(open) = self.open else {
             self.start_text();
-            return self.explain_lines(line);
+            return self.explain_lines(line, 0);
         };
-        let mut text = mem::replace(&mut self.held, String::new(self.alloc));
-        text.push('\n')?;
-        self.start_line(text.len())?;
-        text.push_str(line)?;
+        self.held.push('\n')?;
+        self.start_line(self.held_len())?;
+        self.held.push_str(line)?;
         self.open = open.after(line);
         if self.open.is_some() {
-            self.unreadable = self.unreadable.min(text.len());
-            self.held = text;
+            self.unreadable = self.unreadable.min(self.held_len());
             return Ok(());
         }
-        self.explain_lines(text.as_str())
+        let (text, start) = self.take_held()?;
+        self.explain_lines(text.as_str(), start)
     }
 
-    /// Explains the literals in a text, and holds what is incomplete at its end.
-    fn explain_lines(&mut self, text: &str) -> Result<(), Error> {
+    /// Explains the literals in a text from `start` on, and holds what is incomplete at its end.
+    fn explain_lines(&mut self, text: &str, start: usize) -> Result<(), Error>
+        requires { IsCharBoundary text.now start }
+    {
         self.unreadable = self.unreadable.min(text.len());
-        match self.explain_tokens(text, false)? {
-            Some(start) => {
-                self.unreadable = self.unreadable.saturating_sub(start);
-                self.held = String::from_str(self.alloc, cut(text, start).1)?;
-            }
-            None => self.unreadable = 0,
+        self.explain_tokens(text, start, false)?;
+        if self.open.is_none() {
+            self.unreadable = 0;
         }
         Ok(())
+    }
+
+    /// Returns the length of the text that is held, in bytes.
+    fn held_len(&self) -> usize {
+        self.before.len().saturating_add(self.held.len())
+    }
+
+    /// Takes the text that is held. Returns it with the place where the incomplete token begins.
+    fn take_held(&mut self) -> Result<(String, usize), AllocError>
+        ensures { IfOk result (λ held. IsCharBoundary (string_bytes held.0) held.1) }
+    {
+        let mut text = mem::replace(&mut self.before, String::new(self.alloc));
+        let start = text.len();
+        text.push_str(self.held.as_str())?;
+        self.held.clear();
+        Ok((text, start))
     }
 
     /// Starts a text at the start of a line.
@@ -222,66 +239,89 @@ impl<'a> Explainer<'a> {
         Ok(())
     }
 
-    /// Explains the literals in any text. Returns where the text begins that is to be held, if
-    /// something is incomplete. `is_last` says that no line follows.
-    fn explain_tokens(&mut self, text: &str, is_last: bool) -> Result<Option<usize>, Error> {
+    /// Explains the literals in any text from `start` on. Holds what is incomplete at its end,
+    /// unless no line follows.
+    fn explain_tokens(&mut self, text: &str, start: usize, is_last: bool) -> Result<(), Error>
+        requires { IsCharBoundary text.now start }
+    {
         let mut marks = Marks {
             literal: self.start(),
             error: self.start(),
         };
-        let (_, rest) = cut(text, self.opening.in_text);
-        let mut left = Tokens { source: text, rest };
+        let mut left = Tokens {
+            source: text,
+            rest: &text[start..],
+        };
         while let Some(token) = next_token(&mut left, self.reports.options.comments) {
             if left.rest.is_empty() && !is_last {
                 self.open = Open::of(&token);
                 if self.open.is_some() {
                     let mark = marks.error.moved_before(text, token.start);
-                    return self.hold(mark, token.start);
+                    return self.hold(text, mark, token.start);
                 }
             }
-            self.explain_token(text, &token, &mut marks)?;
+            let is_literal = matches!(token.kind, TokenKind::Literal | TokenKind::MalformedLiteral);
+            if is_literal && token.start >= self.unreadable {
+                marks = self.explain_token(text, &token, marks)?;
+            }
         }
-        Ok(None)
+        Ok(())
     }
 
-    /// Reports on a token of the text that is a literal or a malformed one.
-    fn explain_token(&mut self, text: &str, token: &Token, marks: &mut Marks) -> Result<(), Error> {
-        let is_literal = matches!(token.kind, TokenKind::Literal | TokenKind::MalformedLiteral);
-        if !is_literal || token.start < self.unreadable {
-            return Ok(());
-        }
+    /// Reports on a token of the text that is a literal or a malformed one. Returns the marks that
+    /// are moved to it.
+    fn explain_token(&mut self, text: &str, token: &Token, marks: Marks) -> Result<Marks, Error>
+        requires token { IsTokenOf text.now token.now }
+        requires marks { AreMarks text.now token.now.start marks }
+        ensures { IfOk result (AreMarks text.now token.now.start) }
+    {
         let range = token.range();
         match Literal::parse(self.alloc, token.text) {
             Ok(literal) => {
-                marks.literal = marks.literal.moved(text, range.start);
-                self.add_literal(text, marks.literal, range.end, &literal)
+                let mark = marks.literal.moved(text, range.start);
+                self.add_literal(text, mark, range.end, &literal)?;
+                Ok(Marks {
+                    literal: mark,
+                    error: marks.error,
+                })
             }
             Err(error) => match error.kind() {
                 ParseErrorKind::OutOfMemory => Err(Error::Memory),
                 _ => {
-                    marks.error = marks.error.moved_before(text, range.start);
-                    self.refuse(text, marks.error, range, &error)
+                    let mark = marks.error.moved_before(text, range.start);
+                    self.refuse(text, mark, range, &error)?;
+                    Ok(Marks {
+                        literal: marks.literal,
+                        error: mark,
+                    })
                 }
             },
         }
     }
 
-    /// Holds the text from `mark` on, for a token that begins at `at`. Returns where the text
-    /// begins that is to be held.
-    fn hold(&mut self, mark: Mark, at: usize) -> Result<Option<usize>, Error> {
+    /// Holds the text from `mark` on, for a token that begins at `at`.
+    fn hold(&mut self, text: &str, mark: Mark, at: usize) -> Result<(), Error>
+        requires mark { IsMark text.now at mark }
+        requires at { IsCharBoundary text.now at }
+    {
         if mark.at > 0 || self.opening.in_text != at {
             self.opening = Offset {
-                in_text: at.saturating_sub(mark.at),
+                in_text: at - mark.at,
                 in_file: self.in_file(at),
             };
             self.place = mark.place;
             self.lines.clear();
         }
-        Ok(Some(mark.at))
+        self.unreadable = self.unreadable.saturating_sub(mark.at);
+        self.before = String::from_str(self.alloc, &text[mark.at..at])?;
+        self.held = String::from_str(self.alloc, &text[at..])?;
+        Ok(())
     }
 
     /// Returns the start of the text.
-    fn start(&self) -> Mark {
+    fn start(&self) -> Mark
+        ensures { result.at ≡ 0 }
+    {
         Mark {
             at: 0,
             place: self.place,
@@ -319,7 +359,10 @@ impl<'a> Explainer<'a> {
         start: Mark,
         end: usize,
         literal: &Literal<&str>,
-    ) -> Result<(), Error> {
+    ) -> Result<(), Error>
+        requires start { IsMark text.now end start }
+        requires end { IsCharBoundary text.now end }
+    {
         if self.reports.options.json {
             let span = self.span(start, start.moved(text, end));
             self.reports.add_literal_object(&span, literal)
@@ -335,26 +378,23 @@ impl<'a> Explainer<'a> {
         mark: Mark,
         piece: Range<usize>,
         error: &ParseError,
-    ) -> Result<(), Error> {
-        let (front, _) = cut(text, piece.end);
-        let (_, literal) = cut(front, piece.start);
-        let marked = error.marked_span(literal);
-        let mark = mark.moved_before(text, piece.start.saturating_add(marked.start));
-        let start = mark.moved(text, piece.start.saturating_add(marked.start));
-        let end = start.moved(text, piece.start.saturating_add(marked.end));
-        let (front, _) = cut(
-            text,
-            text.floor_char_boundary(end.at.saturating_add(AROUND)),
-        );
-        let (_, source) = cut(front, mark.at);
+    ) -> Result<(), Error>
+        requires piece { IsCutBy text.now piece }
+        requires mark { IsMark text.now piece.start mark }
+        requires refused { IsRefusedOrOutOfMemory literal_parse
+            (chars (slice_range text.now piece.start piece.end)) error.now }
+    {
+        let marked = marked_part(text, &piece, error);
+        let mark = mark.moved_before(text, marked.start);
+        let start = mark.moved(text, marked.start);
+        let end = start.moved(text, marked.end);
         let problem = Problem {
-            source,
+            source: &text[mark.at..around_end(text, marked.end)],
             place: mark.place,
-            start: start.at.saturating_sub(mark.at),
-            end: end.at.saturating_sub(mark.at),
+            marked: marked.start - mark.at..marked.end - mark.at,
             span: self.span(start, end),
             kind: Some(error.kind()),
-            is_incomplete: is_incomplete(literal, error),
+            is_incomplete: is_incomplete(&text[piece.start..piece.end], error),
         };
         self.reports.add_problem(problem)
     }
@@ -366,7 +406,7 @@ impl<'a> Explainer<'a> {
             self.add_bytes_problem(line)?;
             let text = readable(self.alloc, line)?;
             // An LF may come between the two.
-            self.unreadable = self.held.len().saturating_add(text.len()).saturating_add(1);
+            self.unreadable = self.held_len().saturating_add(text.len()).saturating_add(1);
             self.feed_text(without_line_end(text.as_str()))
         } else {
             self.finish()?;
@@ -389,8 +429,7 @@ impl<'a> Explainer<'a> {
         self.reports.add_problem(Problem {
             source,
             place: self.next,
-            start: source.len(),
-            end: source.len(),
+            marked: source.len()..source.len(),
             span: Span {
                 start,
                 end,
@@ -412,6 +451,27 @@ fn readable(alloc: Global, line: &[u8]) -> Result<String, AllocError> {
         }
     }
     Ok(text)
+}
+
+/// Returns the part of `text` that `error` marks, where it is the error of the part `piece`.
+fn marked_part(text: &str, piece: &Range<usize>, error: &ParseError) -> Range<usize>
+    requires piece { IsCutBy text.now piece.now }
+    requires refused { IsRefusedOrOutOfMemory literal_parse
+        (chars (slice_range text.now piece.now.start piece.now.end)) error.now }
+    ensures cuts { IsCutBy text.now result }
+    ensures after { piece.now.start ≤ result.start }
+{
+    let marked = error.marked_span(&text[piece.start..piece.end]);
+    piece.start + marked.start..piece.start + marked.end
+}
+
+/// Returns the last place at most [`AROUND`] bytes after `at` at which `text` can be cut.
+fn around_end(text: &str, at: usize) -> usize
+    requires { IsCharBoundary text.now at }
+    ensures boundary { IsCharBoundary text.now result }
+    ensures after { at ≤ result }
+{
+    text.floor_char_boundary(at.saturating_add(AROUND))
 }
 
 /// Returns `true` if more text can complete `text` to a literal, where `error` is the error of
@@ -440,7 +500,7 @@ impl Offset {
 }
 
 /// The places from which the next literal and the next error are looked for.
-#[derive(Drop)]
+#[derive(Clone, Copy)]
 struct Marks {
     literal: Mark,
     error: Mark,
@@ -456,18 +516,27 @@ struct Mark {
 
 impl Mark {
     /// Returns the mark at `at`, which is not before this one.
-    fn moved(self, text: &str, at: usize) -> Mark {
-        let (front, _) = cut(text, at);
-        let (_, passed) = cut(front, self.at);
+    fn moved(self, text: &str, at: usize) -> Mark
+        requires from { IsMark text.now at self }
+        requires to { IsCharBoundary text.now at }
+        ensures { result.at ≡ at }
+    {
         Mark {
             at,
-            place: self.place.after(passed),
+            place: self.place.after(&text[self.at..at]),
         }
     }
 
     /// Returns the mark [`AROUND`] bytes before `at`, or this one if it is not before that.
-    fn moved_before(self, text: &str, at: usize) -> Mark {
+    fn moved_before(self, text: &str, at: usize) -> Mark
+        requires { IsMark text.now at self }
+        ensures { IsMark text.now at result }
+    {
         let before = text.floor_char_boundary(at.saturating_sub(AROUND));
-        self.moved(text, before.max(self.at))
+        if before > self.at {
+            self.moved(text, before)
+        } else {
+            self
+        }
     }
 }

@@ -1,9 +1,11 @@
 //! Finds the literals in any text.
-ghost use Rattle.std.specs.Prelude.{◌≡◌, ◌<◌, ◌≤◌, length, IfSome};
+ghost use Rattle.std.specs.Prelude.{◌≡◌, ◌<◌, ◌≤◌, ◌+◌, length, IfSome};
+ghost use Rattle.std.specs.Str.{IsUtf8};
 ghost use Rattle.litrs_lexer.specs.Tokens.{GivesToken};
+ghost use Rattle.litrs_prefix.specs.Ends.{IsEndOf};
+ghost use Rattle.litrs_explain.specs.Places.{IsTokenOf};
 ghost use Rattle.litrs_explain.specs.declared.find.Comments.TheVariants.{Rust};
 
-use crate::text::cut;
 use litrs_lexer::{Token, Tokens};
 
 /// The comments of a text, which are skipped.
@@ -19,28 +21,56 @@ pub(crate) enum Comments {
 
 /// Returns the next token of a text with these comments, or `None` at its end.
 pub(crate) fn next_token<'a>(left: &mut Tokens<'a>, comments: Comments) -> Option<Token<'a>>
+    requires { IsEndOf left.old.source.now left.old.rest.now }
     ensures source { left.new.source.now ≡ left.old.source.now }
+    ensures rest { IsEndOf left.new.source.now left.new.rest.now }
+    ensures token { IfSome result (IsTokenOf left.old.source.now) }
+    ensures after { IfSome result (λ token.
+        length left.old.source.now ≤ token.start + length left.old.rest.now) }
+    ensures before { IfSome result (λ token.
+        token.start + length left.new.rest.now ≤ length left.old.source.now) }
     ensures shorter { IfSome result (λ _.
         length left.new.rest.now < length left.old.rest.now) }
     ensures rust { comments ≡ Rust
         → GivesToken left.old.source.now left.old.rest.now result left.new.rest.now }
 {
-    if comments != Comments::Rust {
-        left.rest = left.rest.trim_start_matches('/');
-    }
+    left.rest = without_slashes(left.rest, comments);
     let token = left.next()?;
-    if comments == Comments::Hash && token.text == "#" {
-        left.rest = after_line(left.rest);
-    }
+    left.rest = after_comment(token, left.rest, comments);
     Some(token)
+}
+
+/// Returns `text` without the slashes at its front, unless they may begin a comment.
+fn without_slashes(text: &str, comments: Comments) -> &str
+    ensures end { IsEndOf text.now result.now }
+    ensures rust { comments ≡ Rust → result.now ≡ text.now }
+{
+    if comments == Comments::Rust {
+        text
+    } else {
+        text.trim_start_matches('/')
+    }
+}
+
+/// Returns `rest`, which follows `token`, without the line of the comment that `token` begins.
+fn after_comment<'a>(token: Token<'_>, rest: &'a str, comments: Comments) -> &'a str
+    ensures end { IsEndOf rest.now result.now }
+    ensures utf8 { IsUtf8 rest.now }
+    ensures rust { comments ≡ Rust → result.now ≡ rest.now }
+{
+    if comments == Comments::Hash && token.text == "#" {
+        after_line(rest)
+    } else {
+        rest
+    }
 }
 
 /// Returns the part of `text` from its first line feed on.
 fn after_line(text: &str) -> &str
-    ensures { length result.now ≤ length text.now }
+    ensures { IsEndOf text.now result.now }
 {
     match text.find('\n') {
-        Some(len) => cut(text, len).1,
+        Some(len) => &text[len..],
         None => "",
     }
 }

@@ -1,6 +1,5 @@
 //! The standard output.
 use crate::error::Error;
-use crate::text::cut;
 use std::io;
 use std::io::Write;
 
@@ -53,7 +52,11 @@ impl Output {
     /// Writes the whole reports so far. Reports that cannot be written are dropped, and so is a
     /// part of a report.
     pub(crate) fn flush(&mut self) -> Result<(), Error> {
-        let (reports, _) = cut(self.unwritten.as_str(), self.whole);
+        let (reports, _) = self
+            .unwritten
+            .as_str()
+            .split_at_checked(self.whole)
+            .unwrap_or(("", ""));
         let written = self.write(reports);
         self.unwritten.clear();
         self.whole = 0;

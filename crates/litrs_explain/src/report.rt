@@ -1,6 +1,6 @@
 //! Reports on literals and errors, as text or as JSON.
 ghost use Rattle.std.specs.Prelude.{◌≡◌, ◌≤◌, ◌<◌, ◌↔◌, ◌++◌, OnOk, IsTrue, string_bytes};
-ghost use Rattle.std.specs.Str.{IsCharBoundary};
+ghost use Rattle.litrs_base.specs.CharEnd.{IsCutBy};
 ghost use Rattle.litrs.specs.LiteralDerivation.{derivation};
 ghost use Rattle.litrs_explain.specs.Report.{place_text, IsLiteralReport};
 
@@ -14,6 +14,7 @@ use litrs_diagnostic::{Color, Diagnostic, Painted, shown, shown_in_color};
 use litrs_explanation::push_explanation;
 use std::alloc::{AllocError, Global};
 use std::fmt::Write;
+use std::ops::Range;
 
 /// The number of columns of a line that are shown around an error.
 const WIDTH: usize = 100;
@@ -29,16 +30,16 @@ pub(crate) struct Problem<'a> {
     pub(crate) source: &'a str,
     /// The place of the first character of `source`.
     pub(crate) place: Place,
-    /// The start of the error in `source`, in bytes.
-    pub(crate) start: usize,
-    /// The end of the error in `source`, in bytes.
-    pub(crate) end: usize,
+    /// The error in `source`, in bytes.
+    pub(crate) marked: Range<usize>,
     /// The place of the error in the file.
     pub(crate) span: Span,
     /// The kind of the error, or `None` for a byte that is not UTF-8.
     pub(crate) kind: Option<ParseErrorKind>,
     /// Set if more text can complete the literal.
     pub(crate) is_incomplete: bool,
+    /// The text can be cut at both ends of the error.
+    ghost cuts: { IsCutBy source.now marked },
 }
 
 impl Problem<'_> {
@@ -136,8 +137,8 @@ impl<'a> Reports<'a> {
 
     /// Returns the lines on an error for a person.
     fn problem_lines(&self, problem: &Problem) -> Result<String, AllocError> {
-        let (start, end) = cuts(problem.source, problem.start, problem.end);
-        let diagnostic = Diagnostic::new(self.name, problem.source, start..end, problem.message())
+        let marked = problem.marked.start..problem.marked.end;
+        let diagnostic = Diagnostic::new(self.name, problem.source, marked, problem.message())
             .with_first(narrowed(problem.place.line), narrowed(problem.place.column))
             .with_width(WIDTH);
         let mut lines = if self.options.color {
@@ -147,7 +148,8 @@ impl<'a> Reports<'a> {
         };
         lines.push_str(note(problem.is_incomplete))?;
         if problem.kind == Some(ParseErrorKind::InvalidLiteral) {
-            lines.push_str(sign_note(self.alloc, &problem.source[start..end]))?;
+            let text = &problem.source[problem.marked.start..problem.marked.end];
+            lines.push_str(sign_note(self.alloc, text))?;
         }
         Ok(lines)
     }
@@ -230,18 +232,4 @@ fn is_other_text(literals: usize, errors: usize) -> bool
 fn narrowed(number: usize) -> u32 {
     // bounded by the type: it is the number of a line or a column, and no amount of memory
     u32::try_from(number).unwrap_or(u32::MAX)
-}
-
-/// Returns both places if the text can be cut at them and they are in order. If not, returns the
-/// start and the end of the text.
-fn cuts(text: &str, start: usize, end: usize) -> (usize, usize)
-    ensures start { IsCharBoundary text.now result.0 }
-    ensures end { IsCharBoundary text.now result.1 }
-    ensures in_order { result.0 ≤ result.1 }
-{
-    if start <= end && text.is_char_boundary(start) && text.is_char_boundary(end) {
-        (start, end)
-    } else {
-        (0, text.len())
-    }
 }

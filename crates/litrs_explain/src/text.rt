@@ -1,15 +1,7 @@
 //! Cuts of texts.
-ghost use Rattle.std.specs.Prelude.{◌≡◌, ◌<◌, ◌++◌, length, IfSome};
+ghost use Rattle.std.specs.Prelude.{◌<◌, length, IfSome};
 
 use memchr::memchr;
-
-/// Returns the text before and after `at`, in bytes. Where it cannot be cut there, the first part
-/// is empty.
-pub(crate) fn cut(text: &str, at: usize) -> (&str, &str)
-    ensures { text.now ≡ result.0.now ++ result.1.now }
-{
-    text.split_at_checked(at).unwrap_or(("", text))
-}
 
 /// Returns the first line of `bytes` with its LF, and what follows it, or `None` if there is no LF.
 pub(crate) fn first_line(bytes: &[u8]) -> Option<(&[u8], &[u8])>
