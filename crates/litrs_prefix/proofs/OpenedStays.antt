@@ -3,7 +3,7 @@ use Rattle.std.proofs.Common.{◌≡◌, ◌⊎◌, inl, inr, ℕ, zero, suc, �
 use Rattle.std.specs.Prelude.{◌==◌, if◌then◌else◌}
 use Rattle.std.specs.Char.{is_ascii_digit}
 use Rattle.std.specs.List.{prefix_len}
-use Rattle.std.proofs.lemmas.Bool.{and_parts, and_left, and_right, eqb-true, true≢false, false≢true}
+use Rattle.std.proofs.lemmas.Bool.{and_parts, and_left, and_right, or_left, or_right, eqb-true, true≢false, false≢true}
 use Rattle.std.proofs.lemmas.List.{drop-append-le, drop_all}
 use Rattle.unicode_ident.specs.Ident.{is_xid_continue}
 use Rattle.unicode_ident.proofs.IdentLemmas.{is_xid_start-ascii, is_xid_continue-ascii}
@@ -508,25 +508,16 @@ and_longer : (a b d : Bool) → (b ≡ true → d ≡ true) → (a && b) ≡ tru
 and_longer true b d f h = f h
 and_longer false b d f h = absurd (false≢true h)
 
+or_longer : (a b x y : Bool) → (a ≡ true → x ≡ true) → (b ≡ true → y ≡ true) → (a || b) ≡ true → (x || y) ≡ true
+or_longer true b x y f g h = or_left x y (f refl)
+or_longer false b x y f g h = or_right x y (g h)
+
 pub seven : (a b c d e f g x y z u v : Bool) → (c ≡ true → x ≡ true) → (d ≡ true → y ≡ true) → (e ≡ true → z ≡ true) → (f ≡ true → u ≡ true) → (g ≡ true → v ≡ true) →
     (a || b || c || d || e || f || g) ≡ true → (a || b || x || y || z || u || v) ≡ true
-seven true b c d e f g x y z u v i j k l n h = refl
-seven false true c d e f g x y z u v i j k l n h = refl
-seven false false true d e f g x y z u v i j k l n h = rw (i refl) refl
-seven false false false true e f g true y z u v i j k l n h = refl
-seven false false false true e f g false y z u v i j k l n h = rw (j refl) refl
-seven false false false false true f g true y z u v i j k l n h = refl
-seven false false false false true f g false true z u v i j k l n h = refl
-seven false false false false true f g false false z u v i j k l n h = rw (k refl) refl
-seven false false false false false true g true y z u v i j k l n h = refl
-seven false false false false false true g false true z u v i j k l n h = refl
-seven false false false false false true g false false true u v i j k l n h = refl
-seven false false false false false true g false false false u v i j k l n h = rw (l refl) refl
-seven false false false false false false g true y z u v i j k l n h = refl
-seven false false false false false false g false true z u v i j k l n h = refl
-seven false false false false false false g false false true u v i j k l n h = refl
-seven false false false false false false g false false false true v i j k l n h = refl
-seven false false false false false false g false false false false v i j k l n h = n h
+seven a b c d e f g x y z u v i j k l n h =
+    or_longer (a || b || c || d || e || f) g (a || b || x || y || z || u) v
+    (or_longer (a || b || c || d || e) f (a || b || x || y || z) u
+    (or_longer (a || b || c || d) e (a || b || x || y) z (or_longer (a || b || c) d (a || b || x) y (or_longer (a || b) c (a || b) x (λ t. t) i) j) k) l) n h
 
 begins_stays : (t m : List ℕ) → opens t ≡ true → is_empty (after_opened t) ≡ false → opens (t ++ m) ≡ true
 begins_stays [] m h some = absurd (false≢true h)
