@@ -41,10 +41,9 @@ pub fn hash_len(bytes: &[u8]) -> usize
     ensures within { result ≤ length bytes.now }
 {
     match bytes {
-        // If the eighth byte is not a hash, few are, and they are compared one by one.
-        [b'#', _, _, _, _, _, _, b'#', ..] => hash_len_of_many(bytes),
-        [b'#', ..] => bytes.iter().take_while(|b| **b == b'#').count(),
-        _ => 0,
+        // Few hashes are compared one by one.
+        [b'#', b'#', b'#', b'#', b'#', b'#', b'#', b'#', ..] => hash_len_of_many(bytes),
+        _ => bytes.iter().take_while(|b| **b == b'#').count(),
     }
 }
 
