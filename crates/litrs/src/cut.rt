@@ -14,8 +14,8 @@ ghost use Rattle.litrs.specs.StringLiteral.{kept_map};
 
 use crate::kept_value::{BodyPlace, KeptValue};
 use litrs_lex::{
-    Allows, EscapeContainer, Front, ParseError, ParseErrorKind, StringKind, Switches,
-    scan_raw_string, unescape_string_with,
+    Allows, EscapeContainer, Front, ParseError, ParseErrorKind, StringKind, scan_raw_string,
+    unescape_string_with,
 };
 use std::alloc::Global;
 
@@ -41,7 +41,7 @@ pub(crate) fn read_string<C: EscapeContainer, A: Allows>(
     match front {
         Front::Quoted(found) if found == kind => quoted_value(alloc, input, offset, allowed),
         Front::Raw(found) if found == kind => {
-            let (place, start_suffix) = raw_place(input, offset, kind.switches())?;
+            let (place, start_suffix) = raw_place(input, offset, allowed)?;
             Ok((KeptValue::InText(place), start_suffix))
         }
         Front::Empty => Err(ParseError::new(None, ParseErrorKind::Empty)),
@@ -102,22 +102,25 @@ fn quoted_value<C: EscapeContainer, A: Allows>(
 /// Cuts a raw string whose `r` ends at `offset`. Returns the places of its body and its suffix.
 /// `offset` and `allowed` are those of [`scan_raw_string`].
 #[inline(never)]
-fn raw_place(
+fn raw_place<A: Allows>(
     input: &str,
     offset: usize,
-    allowed: Switches,
+    allowed: A,
 ) -> Result<(BodyPlace, usize), ParseError>
     requires { IsCharBoundary input.now offset }
     ensures ok { IfOk result (λ parsed.
-        IsParsedRaw allowed.unicode allowed.allow_nul offset input.now parsed.0 parsed.1) }
+        IsParsedRaw (A.allowed allowed).unicode (A.allowed allowed).allow_nul offset input.now
+        parsed.0 parsed.1) }
     ensures refused { IfErr result
-        (IsRawRefused allowed.unicode allowed.allow_nul offset input.now) }
+        (IsRawRefused (A.allowed allowed).unicode (A.allowed allowed).allow_nul offset
+        input.now) }
 {
+    let switches = allowed.switches();
     let (hashes, start_suffix) = scan_raw_string(
         input,
         offset,
-        allowed.unicode,
-        allowed.allow_nul,
+        switches.unicode,
+        switches.allow_nul,
     )?;
     // The quote and the hashes.
     let closing = hashes as usize + 1;

@@ -10,7 +10,7 @@ use crate::sink::Sink;
 use litrs_base::Unescape;
 
 /// The number of bytes that are put into the container at a time.
-const PIECE: usize = 128;
+const PIECE: usize = 1024;
 
 /// A container, and bytes that are put into it next. A value fits if the capacity suffices.
 #[derive(Drop)]

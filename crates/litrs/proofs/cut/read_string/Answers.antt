@@ -1,5 +1,5 @@
 -- The front tells an empty text and another start from those that the scans of quoted and of raw strings read.
-use Rattle.std.proofs.Common.{◌≡◌, ℕ, true, List, rules, sym, ap, subst, ◌∙◌}
+use Rattle.std.proofs.Common.{◌≡◌, ℕ, true, List, rules, sym, subst, ◌∙◌}
 use Rattle.std.specs.Str.{chars, IsUtf8}
 use Rattle.std.proofs.lemmas.Result.{err_from_is_err_and, IfOk-weaker, IfErr-weaker}
 use Rattle.litrs_base.specs.declared.err.ParseError.{ParseError}
@@ -7,7 +7,6 @@ use Rattle.litrs_base.specs.Refusal.{refusal_of, HasCharSpan}
 use Rattle.litrs_base.specs.Text.{begins_with}
 use Rattle.litrs_base.specs.Quotes.{quoted_front, raw_front}
 use Rattle.litrs_base.specs.declared.quotes.StringKind.{StringKind}
-use Rattle.litrs_base.specs.declared.quotes.Switches.{Switches}
 use Rattle.litrs_grammar.specs.LiteralRefusals.{string_start_refusal}
 use Rattle.litrs_lex.specs.declared.kind.Front.{Front}
 use Rattle.litrs_lex.specs.declared.kind.Front.TheVariants as front
@@ -104,7 +103,7 @@ returns-in_err-place-in-Raw-clause-refused g c =
     let seen = same_true the_type (search rules) _ c.args.kind (sym c.if-eq-2.ensures) in
     let same : c.in-Raw.found ≡ c.args.kind = cc in
     let begins = raw_by c.in-Raw.found c.args.kind c.args.front c.args.input.now c.requires.front c.in-Raw.is same in
-    let refused = rw (c.front_len-offset.ensures.raw, ap (λ (w : Switches). w.unicode) c.switches.ensures, ap (λ (w : Switches). w.allow_nul) c.switches.ensures) at c.in_err-place-in-Raw.ensures.refused in
+    let refused = rw (c.front_len-offset.ensures.raw, c.requires.same) at c.in_err-place-in-Raw.ensures.refused in
     let p = err_from_is_err_and c.from_residual.result c.from_residual.ensures.1 in
     rw (p.1, p.2) (raw_error c.args.kind c.args.input.now _ c.utf8.input begins refused)
 
@@ -113,7 +112,7 @@ returns-in_ok-place-in-Raw-clause-ok g c =
     let seen = same_true the_type (search rules) _ c.args.kind (sym c.if-eq-2.ensures) in
     let same : c.in-Raw.found ≡ c.args.kind = cc in
     let begins = raw_by c.in-Raw.found c.args.kind c.args.front c.args.input.now c.requires.front c.in-Raw.is same in
-    let ok = rw (c.front_len-offset.ensures.raw, ap (λ (w : Switches). w.unicode) c.switches.ensures, ap (λ (w : Switches). w.allow_nul) c.switches.ensures) at c.in_ok-place-in-Raw.ensures.ok in
+    let ok = rw (c.front_len-offset.ensures.raw, c.requires.same) at c.in_ok-place-in-Raw.ensures.ok in
     parsed_raw c.args.kind c.args.input.now c.in_ok-place-in-Raw.place c.in_ok-place-in-Raw.start_suffix c.utf8.input begins ok
 
 pub returns-in-Empty-clause-refused : goal.returns-in-Empty-clause-refused
