@@ -67,8 +67,8 @@ pub(crate) fn plain_front(bytes: &[u8]) -> &str
     unsafe { str::from_utf8_unchecked(&bytes[..plain_len(bytes, false)]) }
 }
 
-/// Returns the length of the plain ASCII that `bytes` start with, or, if `wide`, of the plain bytes,
-/// those above 7E among them. If the first byte is not plain, nothing more is read.
+/// Returns the length of the plain ASCII that `bytes` start with. If `wide`, the bytes above 7E are
+/// plain too. If the first byte is not plain, nothing more is read.
 #[inline(always)]
 pub(crate) fn plain_len(bytes: &[u8], wide: bool) -> usize
     ensures len { result ≡ prefix_len (is_plain wide) bytes.now }
@@ -92,7 +92,8 @@ fn begins_plain(bytes: &[u8], wide: bool) -> bool
     }
 }
 
-/// Like [`plain_len`], by 16 bytes a step.
+/// Like [`plain_len`], by 16 bytes a step. It is inlined, so that `wide` is known in each copy.
+#[inline(always)]
 fn plain_len_by_lanes(bytes: &[u8], wide: bool) -> usize
     ensures len { result ≡ prefix_len (is_plain wide) bytes.now }
     ensures within { result ≤ length bytes.now }

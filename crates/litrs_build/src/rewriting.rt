@@ -14,7 +14,7 @@ ghost use Rattle.litrs_grammar.specs.Quoted.{Item, item_text, body_text, QuotedP
 ghost use Rattle.litrs_grammar.specs.Strings.{is_raw};
 ghost use Rattle.litrs.specs.LiteralDerivation.{derivation};
 ghost use Rattle.litrs_build.specs.BodyItem.{Reads, BeginsWithItem, IsBody};
-ghost use Rattle.litrs_build.specs.Rewriting.{is_mark, after_blanks, run_len, needed_char, needed_spelling, plain_rewriting, escape_rewriting, line_feed_rewriting, continuation_rewriting, item_rewriting, before_after, items_of, cased_item, cased_digit, keeps, keeps_chars, rewritten, rewritten_items, rewritten_string, rewritten_char};
+ghost use Rattle.litrs_build.specs.Rewriting.{is_mark, after_blanks, run_len, needed_char, needed_spelling, plain_rewriting, escape_rewriting, line_feed_rewriting, continuation_rewriting, item_rewriting, before_after, items_of, cased_item, cased_digit, keeps, rewritten, rewritten_items, rewritten_string, rewritten_char};
 ghost use Rattle.litrs_build.specs.WrittenAnew.{HaveSameValue};
 
 use crate::body_item::{BodyItem, read_item, starts_with};
@@ -206,18 +206,11 @@ fn run_len(rest: &[u8], before: Before, escapes: Escapes) -> usize
     ensures within { result ≤ length rest.now }
 {
     match before {
-        Before::Text | Before::Mark => plain_len(rest, keeps_chars(escapes)),
+        Before::Text | Before::Mark => match escapes {
+            Escapes::Kept | Escapes::Respelled => plain_len(rest, true),
+            Escapes::Needed => plain_len(rest, false),
+        },
         Before::Continuation => 0,
-    }
-}
-
-/// Returns `true` if each character other than LF stays as it is.
-fn keeps_chars(escapes: Escapes) -> bool
-    ensures { result ≡ keeps_chars escapes }
-{
-    match escapes {
-        Escapes::Kept | Escapes::Respelled => true,
-        Escapes::Needed => false,
     }
 }
 
