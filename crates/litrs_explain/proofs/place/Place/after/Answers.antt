@@ -1,5 +1,5 @@
 -- The place after the text is that of its end; the sum does not overflow.
-use Rattle.std.proofs.Common.{◌≡◌, ℕ, List, length, take, ◌+◌, ◌-◌, ap, ◌∙◌, arith}
+use Rattle.std.proofs.Common.{◌≡◌, ℕ, List, ◌+◌, ◌-◌, ap, ◌∙◌, arith}
 use Rattle.std.specs.Str.{chars}
 use Rattle.std.proofs.Math.Seq.{take-length}
 use Rattle.litrs_diagnostic.specs.Position.{line_number, column_number}
