@@ -4,17 +4,16 @@
 .ci/refused.py [--seed SEED] [ROWS]
 
 Runs both builds of crates/litrs_vectors, which `rt ci` leaves in its out/, on each row of its table
-and of texts that are generated here, or on the rows of the file ROWS alone, a row a process, without
-the prefixes of its text. Some of the lengths in generated texts are drawn anew in each run; SEED,
-which is printed, draws the same again. By .ci/refuse.c a process is copied at each of its
-allocations: into one in which that one is refused, and one in which all from there on are.
+and of texts that are generated here, or on the rows of the file ROWS alone, a row a process. Some of
+the lengths in generated texts are drawn anew in each run; SEED, which is printed, draws the same
+again. By .ci/refuse.c a process is copied at each of its allocations: into one in which that one is
+refused, and one in which all from there on are.
 
 Where one is refused, either a call of the library answered it, and the program prints which one,
-makes the call again and has all else to say as before, also of what the refused call was made on:
-the parts of a literal, the contents of a container, the text of a token, the lines of a collector;
-or it was one of the program's own, and it ends with `out of memory` and the status 1. Where all from
-there on are refused, it ends so. Where a block was to be made smaller, and stays as it is, it may
-also go on as if nothing were refused.
+tries the row again, and the row holds; or it was one of the program's own, and it prints nothing but
+`out of memory` and ends with the status 1. Where all from there on are refused, it ends so, if need
+be after the line on the call. Where a block was to be made smaller, and stays as it is, it may also
+go on as if nothing were refused.
 
 At the end of each row the program asks for `MARK` bytes, and then makes the calls that need no
 memory. Where that block is refused, or all from it on, the row holds as if nothing were.
@@ -50,7 +49,7 @@ CRATE = TOP / "crates" / "litrs_vectors"
 STRINGS = ["StringLit", "ByteStringLit", "CStringLit"]
 OTHERS = ["IntegerLit", "FloatLit", "CharLit", "ByteLit"]
 HOLDS = b"1 rows hold\n"
-# As in crates/litrs_vectors/src/unallocated.rt.
+# As in crates/litrs_vectors/src/lines.rt.
 MARK = 9973
 FEED = "Collector::feed over &str"
 UNTIL = "litrs_prefix::parse_until over &str"
@@ -59,8 +58,7 @@ VALUED = "litrs_value::"
 # The calls of litrs_build that make a literal whose value may be allocated.
 BUILDS_VALUE = {"string", "byte_string", "c_string", "raw_c_string"}
 ENDED = b"litrs_vectors: out of memory\n"
-REFUSED = re.compile("refused (.*) at line 2")
-WITHOUT_PREFIXES = "prefixes\tno\n"
+REFUSED = re.compile("refused (.*) at line 1")
 # The most copies of a part in a text.
 LONGEST = 10_000
 # How many lengths of parts are drawn, below 5,000 with each allocation refused in turn, and below
@@ -244,7 +242,7 @@ class Build:
             environment["REFUSED_ALONE"] = "yes"
         done = subprocess.run(
             [self.program],
-            input=f"{WITHOUT_PREFIXES}{row}\n".encode(),
+            input=f"{row}\n".encode(),
             capture_output=True,
             env=environment,
             timeout=SECONDS,
@@ -277,13 +275,14 @@ class Build:
 
     def is_right(self, how, printed, status):
         """Whether a copy did what it should, in which one allocation was refused, or all were."""
-        if status == 1 and printed.endswith(ENDED):
+        if (printed, status) == (ENDED, 1):
             return True
         call = refused_call(printed)
-        if call:
-            self.refused[call] += 1
+        if call is None:
+            return False
+        self.refused[call] += 1
         rest = printed.partition(b"\n")[2]
-        return how == b"one" and status == 0 and call is not None and rest == HOLDS
+        return (rest, status) == ((HOLDS, 0) if how == b"one" else (ENDED, 1))
 
     def fault(self, row, what):
         self.faults.append(f"{row[:200]}: {what}")

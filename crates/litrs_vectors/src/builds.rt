@@ -1,130 +1,80 @@
 //! The literals that are built from the value of another one.
-use crate::answers::{number_of, value_of};
-use crate::parses::fails;
-use crate::trial::{Place, Trial};
+use crate::literals::value_of;
+use crate::outcome::{Call, Outcome, agrees, made};
 use litrs::{FloatLit, IntegerLit, Literal};
-use litrs_build::BuildError;
+use litrs_build::{
+    BuildError, byte, byte_string, c_string, char, float, grouped_integer, integer,
+    raw_byte_string, raw_c_string, raw_string, regroup, string,
+};
+use std::alloc::Global;
 
-/// The type whose calls build literals.
-pub const PLACE: Place = ("litrs_build", "&str");
+/// Returns the call of `litrs_build` with this name.
+pub fn call(name: &'static str) -> Call {
+    ("litrs_build", name, "&str")
+}
 
-/// Returns the name of the call that builds a literal of this kind from its value.
-pub fn call_of(lit: &Literal<&str>) -> &'static str {
+/// Builds the literal of the value and the suffix, but of a bool.
+pub fn try_build(alloc: Global, lit: &Literal<&str>) -> Outcome {
+    let suffix = lit.suffix();
     match lit {
-        Literal::Integer(_) => "grouped_integer",
-        Literal::Float(_) => "float",
-        Literal::Char(_) => "char",
-        Literal::Byte(_) => "byte",
-        Literal::String(_) => "string",
-        Literal::ByteString(_) => "byte_string",
-        Literal::CString(_) => "c_string",
-        Literal::Bool(_) => "bool",
+        Literal::Bool(_) => Outcome::Holds,
+        Literal::Integer(lit) => try_integer(alloc, lit),
+        Literal::Float(lit) => try_float(alloc, lit),
+        Literal::Char(lit) => built("char", char(alloc, lit.value(), suffix)),
+        Literal::Byte(lit) => built("byte", byte(alloc, lit.value(), suffix)),
+        _ => try_string(alloc, lit).and(try_raw(alloc, lit)),
     }
 }
 
-/// Returns the name of the call that builds a raw string of this kind.
-pub fn raw_call_of(lit: &Literal<&str>) -> &'static str {
-    match lit {
-        Literal::ByteString(_) => "raw_byte_string",
-        Literal::CString(_) => "raw_c_string",
-        _ => "raw_string",
+/// Returns the outcome of a call that builds a literal.
+fn built<L: Drop>(name: &'static str, answer: Result<L, BuildError>) -> Outcome {
+    match &answer {
+        Ok(_) => Outcome::Holds,
+        Err(BuildError::Memory) => Outcome::Refused(call(name)),
+        Err(_) => agrees(call(name), false),
     }
 }
 
-/// Builds the literal of the value and the suffix, but of a bool. Returns `true` if memory was
-/// refused.
-pub fn build_fails(trial: &mut Trial, lit: &Literal<&str>) -> bool {
-    let (alloc, suffix) = (trial.alloc, lit.suffix());
-    match lit {
-        Literal::Bool(_) => false,
-        Literal::Integer(lit) => is_integer_refused(trial, lit),
-        Literal::Float(lit) => is_float_refused(trial, lit),
-        Literal::Char(lit) => is_refused(trial, litrs_build::char(alloc, lit.value(), suffix)),
-        Literal::Byte(lit) => is_refused(trial, litrs_build::byte(alloc, lit.value(), suffix)),
-        _ => is_string_refused(trial, lit),
-    }
-}
-
-/// Builds the integer of the value, the base and the suffix.
-fn is_integer_refused(trial: &mut Trial, lit: &IntegerLit<&str>) -> bool {
-    let alloc = trial.alloc;
-    match number_of(lit) {
-        Some(value) => {
-            let built = litrs_build::grouped_integer(alloc, value, lit.base(), 3, lit.suffix());
-            is_refused(trial, built)
-        }
-        None => fails(litrs_build::regroup(alloc, lit, 3)),
-    }
-}
-
-/// Builds the integer of the value, the base and the suffix, not in groups. Returns `true` if
-/// memory was refused.
-pub fn is_plain_refused(trial: &mut Trial, lit: &Literal<&str>) -> bool {
-    let Literal::Integer(lit) = lit else {
-        return false;
-    };
-    match number_of(lit) {
-        Some(value) => {
-            let built = litrs_build::integer(trial.alloc, value, lit.base(), lit.suffix());
-            is_refused(trial, built)
-        }
-        None => false,
+/// Builds the integer of the value, the base and the suffix, in groups and not in groups.
+fn try_integer(alloc: Global, lit: &IntegerLit<&str>) -> Outcome {
+    let (base, suffix) = (lit.base(), lit.suffix());
+    match lit.value::<u128>() {
+        Some(value) => built(
+            "grouped_integer",
+            grouped_integer(alloc, value, base, 3, suffix),
+        )
+        .and(built("integer", integer(alloc, value, base, suffix))),
+        None => made(call("grouped_integer"), regroup(alloc, lit, 3)),
     }
 }
 
 /// Builds the float of the parts and the suffix.
-fn is_float_refused(trial: &mut Trial, lit: &FloatLit<&str>) -> bool {
-    let (integer, fraction) = (lit.integer_part(), lit.fractional_part());
+fn try_float(alloc: Global, lit: &FloatLit<&str>) -> Outcome {
+    let (whole, fraction) = (lit.integer_part(), lit.fractional_part());
     let (exponent, suffix) = (lit.exponent_part(), lit.suffix());
-    let built = litrs_build::float(trial.alloc, integer, fraction, exponent, suffix);
-    is_refused(trial, built)
+    built("float", float(alloc, whole, fraction, exponent, suffix))
 }
 
 /// Builds the string of one of the three kinds of the value and the suffix.
-fn is_string_refused(trial: &mut Trial, lit: &Literal<&str>) -> bool {
-    let (alloc, suffix) = (trial.alloc, lit.suffix());
+fn try_string(alloc: Global, lit: &Literal<&str>) -> Outcome {
+    let suffix = lit.suffix();
     match lit {
-        Literal::String(lit) => is_refused(trial, litrs_build::string(alloc, lit.value(), suffix)),
-        Literal::ByteString(lit) => {
-            is_refused(trial, litrs_build::byte_string(alloc, lit.value(), suffix))
-        }
-        Literal::CString(lit) => {
-            is_refused(
-                trial,
-                litrs_build::c_string(alloc, lit.value().to_bytes(), suffix),
-            )
-        }
-        _ => false,
+        Literal::String(lit) => built("string", string(alloc, lit.value(), suffix)),
+        Literal::ByteString(lit) => built("byte_string", byte_string(alloc, lit.value(), suffix)),
+        Literal::CString(lit) => built("c_string", c_string(alloc, lit.value().to_bytes(), suffix)),
+        _ => Outcome::Holds,
     }
 }
 
-/// Builds the raw string of the value and the suffix of a raw string. Returns `true` if memory was
-/// refused.
-pub fn is_raw_refused(trial: &mut Trial, lit: &Literal<&str>) -> bool {
+/// Builds the raw string of the value and the suffix of a raw string.
+fn try_raw(alloc: Global, lit: &Literal<&str>) -> Outcome {
     let Some((true, value)) = value_of(lit) else {
-        return false;
+        return Outcome::Holds;
     };
-    let (alloc, suffix) = (trial.alloc, lit.suffix());
+    let suffix = lit.suffix();
     match lit {
-        Literal::ByteString(_) => {
-            is_refused(trial, litrs_build::raw_byte_string(alloc, value, suffix))
-        }
-        Literal::CString(_) => is_refused(trial, litrs_build::raw_c_string(alloc, value, suffix)),
-        Literal::String(lit) => {
-            is_refused(trial, litrs_build::raw_string(alloc, lit.value(), suffix))
-        }
-        _ => false,
-    }
-}
-
-/// Tries that a literal was built. Returns `true` if memory was refused.
-fn is_refused<L: Drop>(trial: &mut Trial, built: Result<L, BuildError>) -> bool {
-    match &built {
-        Ok(_) => false,
-        Err(BuildError::Memory) => true,
-        Err(_) => {
-            trial.check(false, "is not built");
-            false
-        }
+        Literal::String(lit) => built("raw_string", raw_string(alloc, lit.value(), suffix)),
+        Literal::ByteString(_) => built("raw_byte_string", raw_byte_string(alloc, value, suffix)),
+        _ => built("raw_c_string", raw_c_string(alloc, value, suffix)),
     }
 }

@@ -1,101 +1,201 @@
-//! Literals over both buffers, by each accessor, and their copies.
-use crate::answers::are_fields;
-use crate::parses::{Parse, buffer_name, discard, each_kind, fails, parsed};
-use crate::rows::Row;
-use crate::tokens;
-use crate::trial::{Trial, again};
-use litrs::{Literal, Text};
+//! Literals and rejected texts over both buffers, by each parse that a row names.
+use crate::errors::try_error;
+use crate::fields::{after, decimal, hex};
+use crate::outcome::{Outcome, agrees, made};
+use crate::parses::{Parse, parse_by};
+use crate::{calls, tokens};
+use litrs::{FloatLit, IntegerLit, Literal, ParseError, Text};
 use std::alloc::{AllocError, Global};
 
-/// Tries the literal of a row by one of its parses.
-pub fn try_literal(trial: &mut Trial, parse: Parse, row: &Row) {
-    let text = row.text.as_str();
-    try_over(trial, parse, &text, row);
-    try_over(trial, parse, &row.text, row);
-    if trial.holds() {
-        try_owned(trial, parse, text);
-        tokens::try_tokens(trial, parse, row);
-    }
-}
+/// The type of a parse, and the type of its text.
+type At = (&'static str, &'static str);
 
-/// Tries the literal that a parse makes of a text.
-fn try_over<B: Text>(trial: &mut Trial, parse: Parse, text: &B, row: &Row) {
-    trial.at = (parse.name(), buffer_name::<B>());
-    match parsed(trial, parse, text) {
-        Ok(lit) => {
-            again!(trial, "clone", is_clone_refused(trial.alloc, parse, &lit));
-            try_parts(trial, &lit, row);
-            discard(lit);
+/// Tries the parses that a row names, and then other calls on its text.
+pub fn try_text(alloc: Global, names: &str, text: &String, answer: &[u8]) -> Outcome {
+    let is_literal = !answer.starts_with(b"refused\t");
+    let mut outcome = Outcome::Holds;
+    for name in names.split(',') {
+        outcome = outcome.and(try_name(alloc, name, text, answer));
+        if is_literal {
+            outcome = outcome.and(tokens::try_tokens(alloc, name, text.as_str()));
         }
-        Err(_) => trial.check(false, "is refused"),
+    }
+    if is_literal || names.starts_with("Literal") {
+        outcome = outcome.and(calls::try_calls(alloc, text.as_str(), is_literal));
+    }
+    outcome
+}
+
+/// Tries the parse with this name.
+fn try_name(alloc: Global, name: &str, text: &String, answer: &[u8]) -> Outcome {
+    match Parse::from_name(name) {
+        Some((parse, kind)) => {
+            let parsed = parse_by(alloc, parse, text.as_str());
+            let owned = try_owned(alloc, parse, kind, text.copy(alloc), answer);
+            try_borrowed(alloc, parse, kind, parsed, answer).and(owned)
+        }
+        None => agrees(("row", "parse", "&str"), false),
     }
 }
 
-/// Tries each accessor of a literal, and its text as it is printed.
-fn try_parts<B: Text>(trial: &mut Trial, lit: &Literal<B>, row: &Row) {
-    let text = row.text.as_str();
-    trial.check(lit.raw_input() == text, "has another text");
-    let holds = are_fields(row.answer.as_slice(), lit);
-    trial.check(holds, "has other parts");
-    let printed = lit.to_string(trial.alloc);
-    try_printed(trial, printed, text);
-}
-
-/// Tries that a literal is printed as its text.
-fn try_printed(trial: &mut Trial, printed: Result<String, AllocError>, text: &str) {
-    if let Some(printed) = trial.own(printed) {
-        trial.check(printed.as_str() == text, "is printed otherwise");
+/// Tries the answer of a parse over a borrowed text.
+fn try_borrowed(
+    alloc: Global,
+    parse: Parse,
+    kind: &'static str,
+    parsed: Result<Literal<&str>, ParseError>,
+    answer: &[u8],
+) -> Outcome {
+    let outcome = try_parsed(alloc, parse, (kind, "&str"), &parsed, answer);
+    match parsed {
+        Ok(lit) => outcome.and(try_into_owned(alloc, parse, kind, lit)),
+        Err(_) => outcome,
     }
 }
 
-/// Copies a literal by the `clone` of the type whose parse this is. Returns `true` if memory was
-/// refused.
-pub fn is_clone_refused<B: Text>(alloc: Global, parse: Parse, lit: &Literal<B>) -> bool {
-    match parse {
-        Parse::Literal => fails(lit.clone(alloc)),
-        _ => each_kind!(lit, _ => false, lit => fails(lit.clone(alloc))),
+/// Tries a parse over a text that the literal owns, unless the copy was refused.
+fn try_owned(
+    alloc: Global,
+    parse: Parse,
+    kind: &'static str,
+    copy: Result<String, AllocError>,
+    answer: &[u8],
+) -> Outcome {
+    match copy {
+        Ok(copy) => {
+            let parsed = &parse_by(alloc, parse, copy);
+            try_parsed(alloc, parse, (kind, "String"), parsed, answer)
+        }
+        Err(_) => Outcome::Refused(("String", "copy", "String")),
     }
 }
 
-/// Tries that the literal of a text is made to own it.
-fn try_owned(trial: &mut Trial, parse: Parse, text: &str) {
-    trial.at = (parse.name(), "&str");
-    let call = match parse {
-        Parse::Integer | Parse::Float | Parse::Char | Parse::Byte => "to_owned",
-        _ => "into_owned",
+/// Tries the answer of a parse.
+fn try_parsed<B: Text>(
+    alloc: Global,
+    parse: Parse,
+    at: At,
+    parsed: &Result<Literal<B>, ParseError>,
+    answer: &[u8],
+) -> Outcome {
+    match parsed {
+        Ok(lit) => try_literal(alloc, parse, at, lit, answer),
+        Err(e) => try_error(alloc, (at.0, "parse", at.1), e, answer),
+    }
+}
+
+/// Tries the parts of a literal, and its copy.
+fn try_literal<B: Text>(
+    alloc: Global,
+    parse: Parse,
+    at: At,
+    lit: &Literal<B>,
+    answer: &[u8],
+) -> Outcome {
+    let copy = match parse {
+        Parse::Literal => made((at.0, "clone", at.1), lit.clone(alloc)),
+        _ => tokens::try_copy(alloc, at, lit),
     };
-    again!(trial, call, is_own_refused(trial, parse, text));
+    agrees((at.0, "parse", at.1), are_fields(answer, lit)).and(copy)
 }
 
-/// Makes the literal of a text own it. Returns `true` if memory was refused.
-fn is_own_refused(trial: &mut Trial, parse: Parse, text: &str) -> bool {
-    match parsed(trial, parse, &text) {
-        Ok(lit) => is_literal_refused(trial.alloc, parse, lit),
-        Err(_) => {
-            trial.check(false, "is refused");
-            false
-        }
-    }
-}
-
-/// Like [`is_own_refused`], for a literal, by the call of the type whose parse this is.
-fn is_literal_refused(alloc: Global, parse: Parse, lit: Literal<&str>) -> bool {
-    match parse {
-        Parse::Literal => fails(lit.into_owned(alloc)),
-        _ => is_kind_refused(alloc, lit),
-    }
-}
-
-/// Like [`is_own_refused`], for a literal, by the call of its kind. A bool has no text.
-fn is_kind_refused(alloc: Global, lit: Literal<&str>) -> bool {
+/// Returns `true` if these are the fields of a literal, by its accessors.
+pub fn are_fields<B: Text>(answer: &[u8], lit: &Literal<B>) -> bool {
+    let suffix = lit.suffix();
     match lit {
-        Literal::Bool(_) => false,
-        Literal::Integer(lit) => fails(lit.to_owned(alloc)),
-        Literal::Float(lit) => fails(lit.to_owned(alloc)),
-        Literal::Char(lit) => fails(lit.to_owned(alloc)),
-        Literal::String(lit) => fails(lit.into_owned(alloc)),
-        Literal::Byte(lit) => fails(lit.to_owned(alloc)),
-        Literal::ByteString(lit) => fails(lit.into_owned(alloc)),
-        Literal::CString(lit) => fails(lit.into_owned(alloc)),
+        Literal::Bool(lit) => after(answer, &["bool", ""]) == Some(lit.as_str().as_bytes()),
+        Literal::Integer(lit) => is_integer(answer, lit),
+        Literal::Float(lit) => is_float(answer, lit),
+        Literal::Char(lit) => is_code(after(answer, &["char", suffix]), u32::from(lit.value())),
+        Literal::Byte(lit) => is_code(after(answer, &["byte", suffix]), u32::from(lit.value())),
+        Literal::String(_) => is_string(answer, "string", lit),
+        Literal::ByteString(_) => is_string(answer, "bytestring", lit),
+        Literal::CString(_) => is_string(answer, "cstring", lit),
+    }
+}
+
+fn is_integer<B: Text>(answer: &[u8], lit: &IntegerLit<B>) -> bool {
+    let base = match lit.base().value() {
+        2 => "2",
+        8 => "8",
+        10 => "10",
+        _ => "16",
+    };
+    let fields = after(
+        answer,
+        &["integer", lit.suffix(), base, lit.raw_main_part()],
+    );
+    match (fields, lit.value::<u128>()) {
+        (Some(field), Some(value)) => decimal(field) == Some(value),
+        (Some(field), None) => field == "none".as_bytes(),
+        (None, _) => false,
+    }
+}
+
+fn is_float<B: Text>(answer: &[u8], lit: &FloatLit<B>) -> bool {
+    let fraction = lit.fractional_part().unwrap_or("-");
+    let fields = [
+        "float",
+        lit.suffix(),
+        lit.number_part(),
+        lit.integer_part(),
+        fraction,
+    ];
+    after(answer, &fields) == Some(lit.exponent_part().as_bytes())
+}
+
+/// Returns `true` if a field is a number in hex.
+fn is_code(field: Option<&[u8]>, code: u32) -> bool {
+    match field {
+        Some(field) => hex(field) == Some(u128::from(code)),
+        None => false,
+    }
+}
+
+/// Returns the value of a string of one of the three kinds, and `true` if it is raw.
+pub fn value_of<B: Text>(lit: &Literal<B>) -> Option<(bool, &[u8])> {
+    match lit {
+        Literal::String(lit) => Some((lit.is_raw_string(), lit.value().as_bytes())),
+        Literal::ByteString(lit) => Some((lit.is_raw_byte_string(), lit.value())),
+        Literal::CString(lit) => Some((lit.is_raw_c_string(), lit.value().to_bytes())),
+        _ => None,
+    }
+}
+
+/// Returns `true` if these are the fields of a string of one of the three kinds.
+fn is_string<B: Text>(answer: &[u8], kind: &str, lit: &Literal<B>) -> bool {
+    let Some((is_raw, value)) = value_of(lit) else {
+        return false;
+    };
+    let form = if is_raw {
+        "raw"
+    } else if lit.raw_input().contains('\\') {
+        "escaped"
+    } else {
+        "plain"
+    };
+    after(answer, &[kind, lit.suffix(), form]) == Some(value)
+}
+
+/// Makes the literal of a borrowed text own it.
+fn try_into_owned(alloc: Global, parse: Parse, kind: &'static str, lit: Literal<&str>) -> Outcome {
+    match parse {
+        Parse::Literal => made((kind, "into_owned", "&str"), lit.into_owned(alloc)),
+        _ => try_kind_owned(alloc, kind, lit),
+    }
+}
+
+/// Like [`try_into_owned`], by the call of the literal's kind. A bool has no text.
+fn try_kind_owned(alloc: Global, kind: &'static str, lit: Literal<&str>) -> Outcome {
+    let (to_owned, into_owned) = ((kind, "to_owned", "&str"), (kind, "into_owned", "&str"));
+    match lit {
+        Literal::Bool(_) => Outcome::Holds,
+        Literal::Integer(lit) => made(to_owned, lit.to_owned(alloc)),
+        Literal::Float(lit) => made(to_owned, lit.to_owned(alloc)),
+        Literal::Char(lit) => made(to_owned, lit.to_owned(alloc)),
+        Literal::String(lit) => made(into_owned, lit.into_owned(alloc)),
+        Literal::Byte(lit) => made(to_owned, lit.to_owned(alloc)),
+        Literal::ByteString(lit) => made(into_owned, lit.into_owned(alloc)),
+        Literal::CString(lit) => made(into_owned, lit.into_owned(alloc)),
     }
 }

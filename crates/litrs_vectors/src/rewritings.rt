@@ -1,12 +1,13 @@
 //! Rows on literals that are rewritten in a style.
-use crate::builds;
-use crate::parses::{Parse, buffer_name, discard, parsed};
-use crate::rows::Row;
-use crate::trial::{Trial, again};
-use litrs::{Literal, Text};
+use crate::builds::call;
+use crate::errors::try_error;
+use crate::fields::{size, split};
+use crate::outcome::{Call, Outcome, agrees, says};
+use litrs::{Literal, ParseError, Text};
 use litrs_build::{
     Case, Escapes, FloatGroupLens, FloatGroups, GroupLens, Groups, Lines, Style, rewritten,
 };
+use std::alloc::{AllocError, Global};
 
 /// The style that changes nothing.
 const KEPT: Style = Style {
@@ -19,43 +20,71 @@ const KEPT: Style = Style {
     float_groups: FloatGroups::Kept,
 };
 
+/// Returns a style in which the text of no char, byte or string is longer.
+pub fn respelled() -> Style {
+    Style {
+        escapes: Escapes::Respelled,
+        digits: Some(Case::Lower),
+        groups: Groups::Grouped(GroupLens {
+            binary: 4,
+            octal: 4,
+            decimal: 3,
+            hexadecimal: 4,
+        }),
+        exponents: Some(Case::Lower),
+        float_groups: FloatGroups::Grouped(FloatGroupLens {
+            integer: 3,
+            fraction: 3,
+            exponent: 3,
+        }),
+        ..KEPT
+    }
+}
+
 /// Tries the literal of a row, rewritten in the style of the row, over both buffers. Rewritten
 /// again, it stays as it is.
-pub fn try_rewritten(trial: &mut Trial, row: &Row) {
-    let Some((words, answer)) = row.fields() else {
-        trial.check(false, "lacks a field");
-        return;
-    };
+pub fn try_rewritten(alloc: Global, text: &String, answer: &str) -> Outcome {
+    let (words, answer) = split(answer);
     match style_of(words) {
-        Some(style) => {
-            try_over(trial, &row.text.as_str(), &style, "rewritten", answer);
-            try_over(trial, &row.text, &style, "rewritten", answer);
-            try_over(trial, &answer, &style, "rewritten_again", answer);
-        }
-        None => trial.check(false, "names no style"),
+        Some(style) => try_texts(alloc, text, &style, answer),
+        None => agrees(("row", "style", "&str"), false),
     }
 }
 
-/// Tries the literal of a text, rewritten. A failing allocation is noted by this name.
-fn try_over<B: Text>(trial: &mut Trial, text: &B, style: &Style, name: &str, answer: &str) {
-    trial.at = (builds::PLACE.0, buffer_name::<B>());
-    match parsed(trial, Parse::Literal, text) {
-        Ok(lit) => {
-            again!(trial, name, is_refused(trial, &lit, style, answer));
-            discard(lit);
-        }
-        Err(_) => trial.check(false, "is refused"),
+/// Tries the literal of a text over both buffers, and that of the answer.
+fn try_texts(alloc: Global, text: &String, style: &Style, answer: &str) -> Outcome {
+    let (name, again) = (call("rewritten"), call("rewritten_again"));
+    let lit = &Literal::parse(alloc, text.as_str());
+    try_style(alloc, name, lit, style, answer)
+        .and(try_copy(alloc, text.copy(alloc), style, answer))
+        .and(try_style(alloc, again, &Literal::parse(alloc, answer), style, answer))
+}
+
+/// Tries the literal of a text that it owns, unless the copy was refused.
+fn try_copy(
+    alloc: Global,
+    copy: Result<String, AllocError>,
+    style: &Style,
+    answer: &str,
+) -> Outcome {
+    let call = ("litrs_build", "rewritten", "String");
+    match copy {
+        Ok(copy) => try_style(alloc, call, &Literal::parse(alloc, copy), style, answer),
+        Err(_) => Outcome::Refused(("String", "copy", "String")),
     }
 }
 
-/// Rewrites a literal. Returns `true` if memory was refused.
-fn is_refused<B: Text>(trial: &mut Trial, lit: &Literal<B>, style: &Style, answer: &str) -> bool {
-    match &rewritten(trial.alloc, lit, style) {
-        Ok(text) => {
-            trial.check(text.as_str() == answer, "is rewritten otherwise");
-            false
-        }
-        Err(_) => true,
+/// Tries the literal of a text, rewritten.
+fn try_style<B: Text>(
+    alloc: Global,
+    call: Call,
+    parsed: &Result<Literal<B>, ParseError>,
+    style: &Style,
+    answer: &str,
+) -> Outcome {
+    match parsed {
+        Ok(lit) => says(call, rewritten(alloc, lit, style), answer.as_bytes()),
+        Err(e) => try_error(alloc, ("Literal", "parse", call.2), e, b""),
     }
 }
 
@@ -87,35 +116,35 @@ fn with_word(mut style: Style, word: &str) -> Option<Style> {
 
 /// Returns a style with the groups that a word sets.
 fn with_groups(mut style: Style, word: &str) -> Option<Style> {
-    let (name, lens) = word.split_once('=')?;
+    let (name, lens) = word.split_once('=').unwrap_or((word, ""));
     match name {
-        "regrouped" => style.groups = Groups::Regrouped(lens_of(lens)?),
-        "grouped" => style.groups = Groups::Grouped(lens_of(lens)?),
-        "floats_regrouped" => style.float_groups = FloatGroups::Regrouped(float_lens_of(lens)?),
-        "floats_grouped" => style.float_groups = FloatGroups::Grouped(float_lens_of(lens)?),
+        "regrouped" => style.groups = Groups::Regrouped(lens_of(lens)),
+        "grouped" => style.groups = Groups::Grouped(lens_of(lens)),
+        "floats_regrouped" => style.float_groups = FloatGroups::Regrouped(float_lens_of(lens)),
+        "floats_grouped" => style.float_groups = FloatGroups::Grouped(float_lens_of(lens)),
         _ => return None,
     }
     Some(style)
 }
 
 /// Returns the numbers of digits of a group in base 2, 8, 10 and 16, with commas between them.
-fn lens_of(text: &str) -> Option<GroupLens> {
+fn lens_of(text: &str) -> GroupLens {
     let mut lens = text.split(',');
-    Some(GroupLens {
-        binary: lens.next()?.parse::<usize>().ok()?,
-        octal: lens.next()?.parse::<usize>().ok()?,
-        decimal: lens.next()?.parse::<usize>().ok()?,
-        hexadecimal: lens.next()?.parse::<usize>().ok()?,
-    })
+    GroupLens {
+        binary: size(lens.next()),
+        octal: size(lens.next()),
+        decimal: size(lens.next()),
+        hexadecimal: size(lens.next()),
+    }
 }
 
 /// Returns the numbers of digits of a group in the integer part, the fraction and the exponent,
 /// with commas between them.
-fn float_lens_of(text: &str) -> Option<FloatGroupLens> {
+fn float_lens_of(text: &str) -> FloatGroupLens {
     let mut lens = text.split(',');
-    Some(FloatGroupLens {
-        integer: lens.next()?.parse::<usize>().ok()?,
-        fraction: lens.next()?.parse::<usize>().ok()?,
-        exponent: lens.next()?.parse::<usize>().ok()?,
-    })
+    FloatGroupLens {
+        integer: size(lens.next()),
+        fraction: size(lens.next()),
+        exponent: size(lens.next()),
+    }
 }

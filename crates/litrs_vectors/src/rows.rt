@@ -1,105 +1,101 @@
 //! The rows of a table.
-use crate::trial::Trial;
+use crate::outcome::{Call, Outcome, agrees};
+use crate::{diagnostics, fronts, lines, literals, named, rewritings, until, values};
+use std::alloc::{AllocError, Global};
 
-/// A text and its fields.
-#[derive(Drop)]
-pub struct Row<'a> {
-    /// The names of the calls that have this answer.
-    pub names: &'a str,
-    /// The text.
-    pub text: String,
-    /// The further fields, with tabs between them.
-    pub answer: Vec<u8>,
-}
+/// A row that names no call, or that is not written by the rules.
+const ROW: Call = ("row", "read", "&str");
 
-impl<'a> Row<'a> {
-    /// Reads the row of a line, if it is one.
-    pub fn read(trial: &mut Trial, line: &'a str) -> Option<Row<'a>> {
-        let (names, fields) = split(trial, line, '\t')?;
-        let (text, answer) = split(trial, fields, '\t')?;
-        Some(Row {
-            names,
-            text: read_text(trial, text)?,
-            answer: unescaped(trial, answer),
-        })
-    }
-
-    /// Returns the further fields as a text, cut at the first tab.
-    pub fn fields(&self) -> Option<(&str, &str)> {
-        str::from_utf8(self.answer.as_slice())
-            .ok()?
-            .split_once('\t')
+/// Tries the row of a line.
+pub fn try_row(alloc: Global, line: &str) -> Outcome {
+    let mut fields = line.splitn(3, '\t');
+    let names = fields.next().unwrap_or("");
+    let text = unescaped(alloc, fields.next().unwrap_or(""));
+    let answer = unescaped(alloc, fields.next().unwrap_or(""));
+    match (text, answer) {
+        (Ok(text), Ok(answer)) => match String::from_utf8(text) {
+            Ok(text) => try_fields(alloc, names, &text, answer.as_slice()),
+            Err(_) => Outcome::Differs(ROW),
+        },
+        (Err(error), _) | (_, Err(error)) => Outcome::Ends(error),
     }
 }
 
-/// Returns the parts of a text before and after the first `at`.
-fn split<'a>(trial: &mut Trial, text: &'a str, at: char) -> Option<(&'a str, &'a str)> {
-    let parts = text.split_once(at);
-    trial.check(parts.is_some(), "lacks a field, or a part of one");
-    parts
+/// Tries the calls that a row names on its text, given its further fields, and the calls on each
+/// text that need no memory.
+fn try_fields(alloc: Global, names: &str, text: &String, answer: &[u8]) -> Outcome {
+    let outcome = match names {
+        "into_value" => named::try_taken(alloc, text, answer),
+        "Literal::string" => named::try_string(alloc, text.as_str(), answer),
+        "read" => values::try_read(alloc, text.as_str(), answer),
+        "read_prefix" => values::try_read_prefix(alloc, text.as_str(), answer),
+        _ if names.contains("Lit") => literals::try_text(alloc, names, text, answer),
+        _ => try_words(alloc, names, text, str::from_utf8(answer).unwrap_or("")),
+    };
+    outcome.and(lines::try_unallocated(alloc, text.as_str()))
 }
 
-/// Returns the text of a field.
-fn read_text(trial: &mut Trial, field: &str) -> Option<String> {
-    let text = String::from_utf8(unescaped(trial, field)).ok();
-    trial.check(text.is_some(), "has a text that is not UTF-8");
-    text
+/// Like [`try_fields`], for the calls whose further fields are text.
+fn try_words(alloc: Global, name: &str, text: &String, answer: &str) -> Outcome {
+    match name {
+        "rewritten" => rewritings::try_rewritten(alloc, text, answer),
+        _ => try_call(alloc, name, text.as_str(), answer),
+    }
+}
+
+/// Like [`try_words`], for a text that is borrowed.
+fn try_call(alloc: Global, name: &str, text: &str, answer: &str) -> Outcome {
+    match name {
+        "parse_prefix" => fronts::try_front(alloc, text, answer),
+        "prefix_may_change" => fronts::try_may_change(text, answer),
+        "parse_until" => until::try_until(alloc, text, answer),
+        "feed" => lines::try_feeds(alloc, text, answer),
+        "goes_on" => named::try_goes_on(text, answer),
+        "value" => named::try_value(text, answer),
+        "Ident::new" => named::try_ident(alloc, text, answer),
+        "cut_quoted" => named::try_cut(alloc, text, answer),
+        "float" => values::try_float(alloc, text, answer),
+        "Lines" => diagnostics::try_places(alloc, text, answer),
+        "Diagnostic" => diagnostics::try_message(alloc, text, answer),
+        _ => agrees(ROW, false),
+    }
 }
 
 /// Returns the bytes of a field.
-fn unescaped(trial: &mut Trial, field: &str) -> Vec<u8> {
-    let mut bytes = Vec::new(trial.alloc);
+fn unescaped(alloc: Global, field: &str) -> Result<Vec<u8>, AllocError> {
+    let mut bytes = Vec::new(alloc);
     let mut pieces = field.split("%(");
-    push_text(trial, &mut bytes, pieces.next().unwrap_or(""));
+    push_text(&mut bytes, pieces.next().unwrap_or(""))?;
     for piece in pieces {
-        push_repeated(trial, &mut bytes, piece);
+        push_repeated(&mut bytes, piece)?;
     }
-    bytes
+    Ok(bytes)
 }
 
 /// Adds a text in which `%` and two hex digits are a byte.
-fn push_text(trial: &mut Trial, bytes: &mut Vec<u8>, text: &str) {
+fn push_text(bytes: &mut Vec<u8>, text: &str) -> Result<(), AllocError> {
     let mut pieces = text.split('%');
-    push(trial, bytes, pieces.next().unwrap_or("").as_bytes());
+    bytes.extend_from_slice(pieces.next().unwrap_or("").as_bytes())?;
     for piece in pieces {
-        push_escaped(trial, bytes, piece);
+        push_escaped(bytes, piece)?;
     }
+    Ok(())
 }
 
-/// Adds the byte of two hex digits, and the text after them.
-fn push_escaped(trial: &mut Trial, bytes: &mut Vec<u8>, piece: &str) {
+/// Adds the byte of two hex digits, and the text after them. Without the digits it is 255, which
+/// is in no text.
+fn push_escaped(bytes: &mut Vec<u8>, piece: &str) -> Result<(), AllocError> {
     let (digits, plain) = piece.split_at_checked(2).unwrap_or(("", ""));
-    match u8::from_str_radix(digits, 16) {
-        Ok(byte) => {
-            push(trial, bytes, &[byte]);
-            push(trial, bytes, plain.as_bytes());
-        }
-        Err(_) => trial.check(false, "has an escape without hex digits"),
-    }
+    bytes.push(u8::from_str_radix(digits, 16).unwrap_or(255))?;
+    bytes.extend_from_slice(plain.as_bytes())
 }
 
 /// Adds the part of `N*PART)` N times, and the text after it.
-fn push_repeated(trial: &mut Trial, bytes: &mut Vec<u8>, piece: &str) {
-    if let Some((repeated, text)) = split(trial, piece, ')') {
-        if let Some((count, part)) = split(trial, repeated, '*') {
-            let count = count.parse::<u32>().ok();
-            trial.check(count.is_some(), "has a count that is no number");
-            push_copies(trial, bytes, part, count.unwrap_or(0));
-        }
-        push_text(trial, bytes, text);
+fn push_repeated(bytes: &mut Vec<u8>, piece: &str) -> Result<(), AllocError> {
+    let (repeated, text) = piece.split_once(')').unwrap_or(("", "%"));
+    let (count, part) = repeated.split_once('*').unwrap_or(("1", "%"));
+    for _ in 0..count.parse::<u32>().unwrap_or(0) {
+        push_text(bytes, part)?;
     }
-}
-
-/// Adds `count` copies of the bytes of a text.
-fn push_copies(trial: &mut Trial, bytes: &mut Vec<u8>, part: &str, count: u32) {
-    let mut unescaped = Vec::new(trial.alloc);
-    push_text(trial, &mut unescaped, part);
-    for _ in 0..count {
-        push(trial, bytes, unescaped.as_slice());
-    }
-}
-
-/// Adds bytes.
-fn push(trial: &mut Trial, bytes: &mut Vec<u8>, more: &[u8]) {
-    trial.own(bytes.extend_from_slice(more));
+    push_text(bytes, text)
 }
