@@ -18,7 +18,7 @@ print what the page has below them, built and run by the lines of that page, tho
 C++ too. Each text of crates/litrs_lexer/tokens has the tokens of its row, and every text has the
 same tokens by both. What else of the module is tried, python_module.py says. Numbers that
 float_numbers.py draws, of which many lie halfway between two floats, have the double and the float
-nearest to them.
+nearest to them. A parse takes at most a tenth more instructions than bench/figures.txt says.
 
 Of crates/litrs_c/build: its help, wrong arguments, what it installs below DESTDIR and removes, the
 versions that pkg-config finds, and a folder that is moved to a name with a blank.
@@ -37,6 +37,7 @@ import sys
 import tempfile
 
 import float_numbers
+import instructions
 import libraries
 import python_module
 import tokens
@@ -658,6 +659,13 @@ def try_texts(folder, installed, module):
     return len(wanted) + number, faults + more + list(faults_of_kinds(module, kinds))
 
 
+def faults_of_steps(folder, installed):
+    """Texts that take more instructions than the table of the benchmark says."""
+    archive, source = installed / "lib/liblitrs.a", TOP / ".ci/parses.c"
+    program = compiled(["cc", "-std=c99"], installed, folder / "parses", source, archive)
+    return instructions.faults_of(folder, program)
+
+
 def faults_of_kinds(module, kinds):
     """Names that the library gives numbers and that are not those of the kinds, and the version
     where it is not that of the header."""
@@ -715,7 +723,8 @@ def main():
         faults += [*more, *of_calls, *faults_of_names(installed)]
         faults += [*faults_of_samples(folder, installed), *faults_of_versions(installed, module)]
         faults += [*faults_of_words(folder, archive), *faults_of_removal(folder, archive)]
-        faults += faults_of_move(folder, installed)
+        faults += [*faults_of_move(folder, installed), *faults_of_steps(folder, installed)]
+    number += len(instructions.table())
     print(*faults[:20], sep="\n", end="\n" if faults else "")
     print(f"c library: the header by {headers} standards, {calls} calls from Python")
     print(f"c library: {number + headers + calls + 31 - len(faults)} passed, {len(faults)} failed")

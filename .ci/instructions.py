@@ -1,0 +1,48 @@
+"""Counts the instructions that the C library takes for a parse, for c_library.py.
+
+Those of malloc, memcpy and other functions of shared libraries are not counted, so the number does
+not depend on the machine.
+"""
+import pathlib
+import re
+import subprocess
+
+from libraries import TOP
+
+TABLE = TOP / "bench/figures.txt"
+# A line of the table: the text, and the number of instructions.
+LINE = re.compile(r"(\S+) +(\d+)")
+# The numbers of parses of two runs, of which the difference is counted.
+FEW, MANY = 10, 110
+# How many times as many as the table says are too many.
+MOST = 1.1
+
+
+def table():
+    """Returns the number of instructions for each text, by the table."""
+    part = TABLE.read_text().partition("Instructions of one `litrs_parse_into`")[2]
+    lines = part.split("\n\n")[1].splitlines()[1:]
+    return {text: int(number) for text, number in (LINE.fullmatch(it).groups() for it in lines)}
+
+
+def counted(steps, program, text):
+    """Returns how many instructions one parse of the text takes."""
+    numbers = []
+    for count in (FEW, MANY):
+        file = steps.parent / "number"
+        words = [steps, file, program, text, str(count)]
+        subprocess.run(words, check=True, timeout=600, env={"OWN": "yes"})
+        numbers.append(int(file.read_text()))
+    return (numbers[1] - numbers[0]) / (MANY - FEW)
+
+
+def faults_of(folder, program):
+    """The texts for which this program, of parses.c, takes too many instructions."""
+    steps = pathlib.Path(folder) / "steps"
+    subprocess.run(["cc", "-O1", "-o", steps, TOP / ".ci/steps.c"], check=True)
+    numbers = {text: counted(steps, program, text) for text in table()}
+    told = ", ".join(f"{text} {number:.0f}" for text, number in numbers.items())
+    print(f"c library: instructions of a parse: {told}")
+    for text, most in table().items():
+        if numbers[text] > MOST * most:
+            yield f"{text}: {numbers[text]:.0f} instructions, where the table has {most}"
