@@ -36,7 +36,12 @@ const ROWS: &[(&str, &str)] = &[
 fn step(alloc: Global, collector: &mut Collector, line: &str) -> Result<String, AllocError> {
     match &collector.feed_prefix(line)? {
         PrefixStep::More => String::from_str(alloc, "more"),
-        PrefixStep::Literal(lit, rest) => format!(in alloc; "{}|{rest}", lit.raw_input()),
+        PrefixStep::Literal(lit, rest) => {
+            let mut text = String::from_str(alloc, lit.raw_input())?;
+            text.push('|')?;
+            text.push_str(rest)?;
+            Ok(text)
+        }
         PrefixStep::NoLiteral => String::from_str(alloc, "no literal"),
         PrefixStep::Malformed(e) => format!(in alloc; "{}: {}", e.len, e.error),
     }
