@@ -31,7 +31,8 @@ Fails where a copy does anything else, where a call that is not listed below was
 that is listed never was, where `feed` allocates more than once for a line that is no literal, or at
 all for a line that fits the memory of a collector that was cleared, where a call of litrs_build
 allocates more than once for a text and once for a value, where one of litrs_value does for a
-parse and for a value, and where `parse_until` does for a value.
+parse and for a value, where `parse_until` does for a value, and where `feed_prefix` does for a line,
+for the literal and for its value.
 """
 import argparse
 import collections
@@ -52,6 +53,7 @@ HOLDS = b"1 rows hold\n"
 # As in crates/litrs_vectors/src/lines.rt.
 MARK = 9973
 FEED = "Collector::feed over &str"
+FEED_PREFIX = "Collector::feed_prefix over &str"
 UNTIL = "litrs_prefix::parse_until over &str"
 BUILD = re.compile(r"litrs_build::(\w+) over (?:&str|String)")
 VALUED = "litrs_value::"
@@ -136,6 +138,7 @@ def calls():
     yield "litrs_lines::run over &str"
     yield "litrs_lines::run_program over &str"
     yield FEED
+    yield FEED_PREFIX
 
 
 def escaped(data):
@@ -312,7 +315,7 @@ def most_asked(call, fields):
     literal and for its value, `rewritten` also while the text becomes longer than that of the literal,
     one of litrs_value for the literal and for a value that owns memory, `parse_until` for a value, and
     a collector that is fed the lines of a text once a line where each is answered by `More` or
-    `Refused`."""
+    `Refused`, and by `feed_prefix` also for a literal and for its value."""
     if built := BUILD.fullmatch(call):
         if built[1] == "rewritten" and fields[0] == "rewritten":
             return 1 + doublings(byte_len(fields[1]), byte_len(fields[3]))
@@ -327,6 +330,9 @@ def most_asked(call, fields):
         return 1 + (fields[2] in ("String", "Vec<u8>", "CString"))
     if call == FEED and fields[2] == "refused" and "%(" not in fields[1]:
         return fields[1].count("%0A") + 1
+    if call == FEED_PREFIX:
+        has_value = fields[1].startswith("c") or "\\" in fields[1]
+        return fields[1].count("%0A") + 1 + ("|" in fields[2]) * (1 + has_value)
     return sys.maxsize
 
 

@@ -1,4 +1,3 @@
-//! `run` and its devices; lines with more text after a literal.
+//! `run` and its devices.
 mod devices;
 mod inputs;
-mod prefixes;

@@ -1,9 +1,9 @@
 //! Reports on lines, and collectors of lines.
 use crate::calls::LONGEST;
 use crate::fields::split;
-use crate::outcome::{Call, Outcome, agrees, made};
+use crate::outcome::{Call, Outcome, agrees, made, written};
 use litrs::goes_on;
-use litrs_lines::{Collector, MemInput, MemOutput, Step, run, run_program};
+use litrs_lines::{Collector, MemInput, MemOutput, PrefixStep, Step, run, run_program};
 use std::alloc::{AllocError, Global};
 use std::process::ExitCode;
 
@@ -16,6 +16,9 @@ const PIECE: usize = 4096;
 
 /// The call that feeds a line.
 const FEED: Call = ("Collector", "feed", "&str");
+
+/// The call that feeds a line in which more text may follow the literal.
+const FEED_PREFIX: Call = ("Collector", "feed_prefix", "&str");
 
 /// Tries the report on a text that is the only line of an input.
 pub fn try_run(alloc: Global, text: &str) -> Outcome {
@@ -135,6 +138,36 @@ fn try_piece(collector: &mut Collector, piece: &str, is_last: bool) -> Outcome {
     match feed(collector, piece) {
         Ok(step) => agrees(FEED, step == Some(is_last)),
         Err(_) => Outcome::Refused(FEED),
+    }
+}
+
+/// Tries the literal at the front of the lines of a text, with the rest of the last line.
+pub fn try_prefix(alloc: Global, text: &str, answer: &str) -> Outcome {
+    let (lines, last) = text.rsplit_once('\n').unwrap_or(("", text));
+    let mut collector = Collector::new(alloc);
+    let mut outcome = Outcome::Holds;
+    for line in lines.split('\n') {
+        outcome = outcome.and(made(FEED_PREFIX, collector.feed_prefix(line)));
+    }
+    outcome.and(try_step(alloc, &collector.feed_prefix(last), answer))
+}
+
+/// Tries what a line was answered: the literal and the rest with `|` between them, or the length and
+/// the error of a malformed literal.
+fn try_step(alloc: Global, step: &Result<PrefixStep, AllocError>, answer: &str) -> Outcome {
+    match step {
+        Ok(PrefixStep::More) => agrees(FEED_PREFIX, answer == "more"),
+        Ok(PrefixStep::Literal(lit, rest)) => {
+            let (literal, end) = answer.split_once('|').unwrap_or(("", ""));
+            agrees(FEED_PREFIX, lit.raw_input() == literal && *rest == end)
+        }
+        Ok(PrefixStep::NoLiteral) => agrees(FEED_PREFIX, answer == "none"),
+        Ok(PrefixStep::Malformed(e)) => written(
+            FEED_PREFIX,
+            format!(in alloc; "{}: {}", e.len, e.error),
+            answer.as_bytes(),
+        ),
+        Err(_) => Outcome::Refused(FEED_PREFIX),
     }
 }
 

@@ -50,6 +50,7 @@ fn try_call(alloc: Global, name: &str, text: &str, answer: &str) -> Outcome {
         "prefix_may_change" => fronts::try_may_change(text, answer),
         "parse_until" => until::try_until(alloc, text, answer),
         "feed" => lines::try_feeds(alloc, text, answer),
+        "feed_prefix" => lines::try_prefix(alloc, text, answer),
         "goes_on" => named::try_goes_on(text, answer),
         "value" => named::try_value(text, answer),
         "Ident::new" => named::try_ident(alloc, text, answer),
