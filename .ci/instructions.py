@@ -14,7 +14,7 @@ TABLE = TOP / "bench/figures.txt"
 LINE = re.compile(r"(\S+) +(\d+)")
 # The numbers of parses of two runs, of which the difference is counted.
 FEW, MANY = 10, 110
-# How many times as many as the table says are too many.
+# A parse takes at most this multiple of the number in the table.
 MOST = 1.1
 
 
