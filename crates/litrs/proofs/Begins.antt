@@ -1,4 +1,4 @@
--- What begins a literal, as itself and with a kind named.
+-- Beginnings of literals, of any kind and of a given kind.
 use Rattle.std.proofs.Common.{◌≡◌, inl, inr, ℕ, Bool, true, false, List, [], refl, sym, subst}
 use Rattle.std.specs.Prelude.{◌↔◌, IsTrue}
 use Rattle.std.proofs.lemmas.Bool.{false≢true}

@@ -1,4 +1,5 @@
--- What is an error of the parse of a kind is one of the parse of all kinds, where the text is dispatched to that kind.
+-- An error of the parse of a kind is one of the parse of all kinds if the text is dispatched to
+-- that kind.
 use Rattle.std.proofs.Common.{◌≡◌, ◌⊎◌, inl, inr, ℕ, Bool, true, false, List, refl, sym, ap, subst, ◌∙◌}
 use Rattle.std.specs.Prelude.{codes, if◌then◌else◌}
 use Rattle.std.specs.Str.{chars, IsUtf8}

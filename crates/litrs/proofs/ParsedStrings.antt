@@ -1,4 +1,4 @@
--- Where a string is cut, by its only derivation.
+-- The places where a string is cut, by its only derivation.
 use Rattle.std.proofs.Common.{◌≡◌, ℕ, ◌+◌, ◌-◌, Bool, true, List, ◌++◌, length, refl, sym, ap, ◌∙◌, subst}
 use Rattle.std.specs.Str.{chars, IsUtf8}
 use Rattle.std.proofs.lemmas.Str.{encodes-chars, IsUtf8-between}

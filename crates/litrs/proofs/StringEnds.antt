@@ -1,4 +1,4 @@
--- What begins a string of each kind, by its front.
+-- Beginnings of strings of each kind, by their front.
 use Rattle.std.proofs.Common.{◌≡◌, ℕ, Bool, true, false, ◌&&◌, ltb, List, [], ◌∷◌, ◌++◌, length, take, drop, refl, sym, ap, ◌∙◌, subst, arith}
 use Rattle.std.specs.Prelude.{◌↔◌, ◌==◌, IsTrue, codes}
 use Rattle.std.specs.List.{list_all}

@@ -1,4 +1,4 @@
--- The error of a text that is no string, or whose value finds no memory.
+-- The error of a text that is not a string, or whose value cannot be allocated.
 use Rattle.std.proofs.Common.{◌≡◌, ◌⊎◌, inl, inr, ℕ, true, false, List, [], ◌∷◌, length, refl, sym, ap, ◌∙◌, subst}
 use Rattle.std.specs.Str.{chars, IsUtf8}
 use Rattle.std.proofs.lemmas.Str.{chars-nil}

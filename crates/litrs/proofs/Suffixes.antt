@@ -1,4 +1,4 @@
--- What begins a suffix.
+-- Beginnings of suffixes.
 use Rattle.std.proofs.Common.{◌≡◌, ◌⊎◌, inl, inr, ℕ, Bool, true, false, List, [], ◌∷◌, ◌++◌, refl, sym, ap, ◌∙◌, subst, arith}
 use Rattle.std.specs.Prelude.{◌↔◌, IsTrue, codes}
 use Rattle.std.specs.Str.{chars, IsUtf8}

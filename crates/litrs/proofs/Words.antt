@@ -113,7 +113,7 @@ other_is_no_bool word bs is same e = no_row (subst (λ l. IsFront front.Other l)
     no_row other = absurd (let f : refused_as (without_span InvalidLiteral) ≡ parsed_as bool_literal =
         other.row ∙ false_row in cc)
 
--- The fronts of no kind
+-- Fronts that do not belong to a kind
 
 -- the empty text begins a literal
 empty_decided : (bs : List ℕ) → IsUtf8 bs → IsFront front.Empty bs →

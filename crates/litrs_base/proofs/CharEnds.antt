@@ -1,4 +1,4 @@
--- Where spans end in whole characters: in the bytes of a text, and in a text after a front.
+-- Character spans: in the bytes of a text, and in a text after a front.
 use Rattle.std.proofs.Common.{◌≡◌, ◌≤◌, ◌<◌, ◌+◌, ◌-◌, ◌/◌, ◌^◌, ℕ, Bool, true, false, cond, ltb, get_or, zero, suc, List, [], ◌∷◌, ◌++◌, length, Option, Some, None, refl, sym, ap, subst, ◌∙◌, arith, append-nil, inl, inr}
 use Rattle.std.specs.Option.{ForSome}
 use Rattle.std.specs.Prelude.{IfSome, IsUtf8, IsCharBoundary, chars, encode_utf8_all, option_map, unwrap_or}
@@ -90,7 +90,7 @@ char_span_moved front t e f same ends is = moved_end front t e.span f.span e.cha
 
 -- Character spans
 
--- the first byte of a character is no later one: it is below 128, or at least 192
+-- the first byte of a character is not a continuation byte: it is below 128, or at least 192
 lead_by : (a b d : Bool) (c : ℕ) (two three four rest : List ℕ) → (a ≡ true → c < 128) →
     128 ≤ get_or (cond a (c ∷ []) (cond b ((192 + c / 64) ∷ two) (cond d ((224 + c / 4096) ∷ three) ((240 + c / 262144) ∷ four))) ++ rest) 0 0 →
     192 ≤ get_or (cond a (c ∷ []) (cond b ((192 + c / 64) ∷ two) (cond d ((224 + c / 4096) ∷ three) ((240 + c / 262144) ∷ four))) ++ rest) 0 0
@@ -127,7 +127,7 @@ char_span_points t e = points e.span e.char_end
       within = (is.boundary inside.within).0;
     }
 
--- a text that goes on has the same boundaries, up to its end
+-- a longer text has the same boundaries, up to the end of this one
 
 boundary_front : (x y : List ℕ) (n : ℕ) → n < length x → IsCharBoundary (x ++ y) n → IsCharBoundary x n
 boundary_front [] y n inside h = absurd (omega arith)
@@ -155,7 +155,7 @@ char_end_on t x end place inside is =
       past = λ over. absurd (omega arith);
     }
 
--- a refusal that points into a text, of a text that goes on
+-- a refusal that points into a text, of a longer text
 pub char_span_on : (t x : List ℕ) (e : ParseError) → IsInText t (refusal_of e) → HasCharSpan t e → HasCharSpan (t ++ x) e
 char_span_on t x e = on e.span e.char_end
   where

@@ -13,11 +13,11 @@ use Rattle.litrs_base.specs.Unescape.{unescaped_number, is_unescaped_char, is_un
 apart : ¬ ◌≡◌ {A = ℕ} 2 3
 apart same = cc
 
--- 2 is no derivation where 3 alone is one
+-- 2 is not a derivation if only 3 is one
 only_is_one : ¬ IsOnlyDerivation (λ (n : ℕ). n ≡ 3) 2
 only_is_one only = apart only.0
 
--- 3 is not the only one where every number is one
+-- 3 is not the only derivation if every number is one
 only_is_alone : ¬ IsOnlyDerivation (λ (n : ℕ). n ≡ n) 3
 only_is_alone only = apart (only.1 2 refl)
 
@@ -41,7 +41,7 @@ numbers :
     × (unescaped_number (Unicode 0x1F602) ≡ 0x1F602)
 numbers = (refl, refl)
 
--- a byte above 7F is no character, and no character is a byte
+-- a byte above 7F is not a character, and a character is not a byte
 unescaped :
     (is_unescaped_char (Byte 127) ≡ true)
     × (is_unescaped_char (Byte 128) ≡ false)

@@ -73,7 +73,7 @@ wide_unicode w c charset high = elim (or_true w.unicode (is_ascii c) charset) [
   | inr low ↦ absurd (true≢false (sym low ∙ high))
 ]
 
--- A spelling under switches, where these characters stand for themselves
+-- A spelling under switches, if these characters are written as themselves
 
 abbrev pub Fits : Switches → (ℕ → Bool) → Spelling → Type 0
 Fits w plain (Plain c) = (plain c ≡ true) × (scalar c ≡ true)

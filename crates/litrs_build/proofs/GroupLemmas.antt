@@ -172,7 +172,7 @@ some_digit_of base (c ∷ t) any = elim (cases_eq c 95) [
   | inr ne ↦ (let one = ap length (digits_of-digit c t ne) in omega (arith, one))
 ]
 
--- a digit is no `_`
+-- a digit is not `_`
 pub digit_is_no_line : (base : IntegerBase) (c : ℕ) → is_digit base c ≡ true → is_no_underscore c ≡ true
 digit_is_no_line base c is =
     no_underscore c (λ e. true≢false (sym is ∙ (ap (is_digit base) e ∙ line_is_no_digit base)))

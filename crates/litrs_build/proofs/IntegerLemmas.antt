@@ -81,7 +81,7 @@ second_stops c y t none =
     (ne_eqb 111 y (λ e. eqb-false y 111 q.0 (sym e)))
     (ne_eqb 120 y (λ e. eqb-false y 120 q.1 (sym e)))
 
--- the first is no `0`
+-- the first is not `0`
 first_stops : (c : ℕ) (t : List ℕ) → (c ≡ 48 → ⊥) → has_prefix (c ∷ t) ≡ false
 first_stops c t ne = rw (ne_eqb 48 c (λ e. ne (sym e))) refl
 

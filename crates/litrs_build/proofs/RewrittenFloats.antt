@@ -388,7 +388,7 @@ kept_again case lens d = (λ i. record {
   suffix = d.suffix;
 })
 
--- the letter is no `_`, so that there is one after as before
+-- the letter is not `_`, so there is a `_` afterwards iff there was one before
 exponent_line : (case : Option Case) (p : List ℕ) →
     list_any is_underscore (rewritten_exponent case None p) ≡ list_any is_underscore p
 exponent_line case [] = refl

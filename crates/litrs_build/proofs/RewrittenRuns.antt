@@ -85,7 +85,7 @@ no_line_feed : (wide : Bool) (c : ℕ) → is_plain wide c ≡ true → (c == 10
 no_line_feed true c plain = grind (arith, nat_tests)
 no_line_feed false c plain = grind (arith, nat_tests)
 
--- the text before is no continuation
+-- the text before is not a continuation
 abbrev IsApart : Before → Type 0
 IsApart Continuation = ⊥
 IsApart _ = Unit {0}

@@ -118,7 +118,7 @@ unicode_fits w c unicode e value =
     and_from _ _ (and_from _ _ (and_from _ _ (and_from _ _ (and_from _ _ unicode begins) all) count)
     (ap (allows_value w) number ∙ value)) (ap is_scalar number ∙ e)
 
--- A spelling under switches, where these characters stand for themselves
+-- A spelling under switches, if these characters are written as themselves
 
 abbrev fits : Switches → (ℕ → Bool) → Spelling → Bool
 fits w plain (Plain c) = plain c

@@ -1,4 +1,4 @@
--- What answers say, read by name: each line fails if the definition says less.
+-- The fields of answers, read by name: each line fails if the definition says less.
 use Rattle.std.specs.Prelude.{◌≡◌, ◌≤◌, ◌⊎◌, ℕ, ◌+◌, ◌*◌, ◌^◌, List, [], Some, None, true, false, length, drop, unwrap_or, codes}
 use Rattle.std.specs.Str.{chars, IsUtf8, IsCharBoundary}
 use Rattle.std.proofs.Common.{arith, refl, ap, sym, subst, ◌∙◌}
@@ -146,7 +146,7 @@ open_fields : (fields : RefusalFields) →
     × (fields.span ≡ nowhere) × (fields.char_span ≡ nowhere)
 open_fields fields is = (is.kind, is.final, is.lacks_closing, is.has_span, is.span, is.char_span)
 
--- What is written to a room
+-- Writes to a room
 
 -- nothing is written with a length of 1
 kept_without_length : ¬ IsKept [] [] 1

@@ -1,6 +1,6 @@
 -- sizes of literals and their parts
 pub mod Sizes
--- where the parts stand
+-- the places of the parts
 pub mod PartPlaces
 -- allocation failures
 pub mod Memory

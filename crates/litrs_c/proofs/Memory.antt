@@ -1,4 +1,4 @@
--- An error of the kind of allocation failures is of no other text than the literals whose value is allocated.
+-- Only a literal whose value is allocated has the error of an allocation failure.
 use Rattle.std.proofs.Common.{◌≡◌, ℕ, List, inl, inr, rules}
 use Rattle.litrs_base.specs.declared.err.ParseError.{ParseError}
 use Rattle.litrs_base.specs.declared.err.ParseErrorKind.TheVariants.{OutOfMemory}

@@ -1,4 +1,4 @@
--- Where the parts of a literal stand, by the sizes of their bytes.
+-- The places of the parts of a literal, by the sizes of their bytes.
 use Rattle.std.proofs.Common.{◌≡◌, ℕ, ◌+◌, ◌-◌, ◌≤◌, List, ◌++◌, length, refl, ap, subst, ◌∙◌, arith}
 use Rattle.std.specs.Prelude.{Option, Some}
 use Rattle.std.specs.Str.{chars, IsUtf8}
@@ -21,7 +21,7 @@ pub fraction_found : (integer bytes digits : List ℕ) (fraction : Option (List 
 fraction_found integer bytes digits fraction place utf8 is found made =
     subst (λ (o : Option (List ℕ)). place ≡ fraction_after integer o) found (made ∙ ap (λ (n : ℕ). place_of (n + 1) digits) (length-chars bytes integer utf8 is))
 
--- what stands before the exponent, and the exponent, are the number
+-- the text before the exponent, and the exponent, are the number
 exponent_size : (d : FloatParts) (number exponent : List ℕ) → IsUtf8 number → IsUtf8 exponent → chars number ≡ number_part d → chars exponent ≡ d.exponent →
     byte_len (d.integer ++ fraction_text d.fraction) + length exponent ≡ length number
 exponent_size d number exponent number_utf8 utf8 number_is is =

@@ -1,4 +1,4 @@
--- What stands at the front of a text: the bytes that follow it, and an error of the kind of allocation failures.
+-- The front of a text: the bytes that follow it, and the error of an allocation failure.
 use Rattle.std.proofs.Common.{◌≡◌, ℕ, List, ◌++◌, length, drop, refl, sym, ap, ◌∙◌, subst, inl, inr}
 use Rattle.std.proofs.Math.Seq.{drop-append_seam}
 use Rattle.std.specs.Str.{chars}

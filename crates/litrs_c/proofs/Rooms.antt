@@ -1,13 +1,13 @@
--- Parts that are written to a room one after the other, and what stands there in the end.
+-- Parts that are written to a room one after the other, and the contents of the room afterwards.
 use Rattle.std.proofs.Common.{◌≡◌, ℕ, zero, suc, ◌+◌, List, [], ◌∷◌, ◌++◌, length, ap, sym, ◌∙◌, zero-add, length-append, arith}
 use Rattle.std.proofs.lemmas.List.{take_all, drop_all}
 use Rattle.litrs_c.specs.Answers.{filled, filled_from, IsWritten, IsWrittenFrom}
 
--- a room of no bytes stays so
+-- an empty room stays empty
 filled_nil : (bytes : List ℕ) → filled bytes [] ≡ []
 filled_nil bytes = drop_all (length bytes) [] (omega arith)
 
--- no bytes leave the room as it is
+-- writing no bytes leaves the room unchanged
 nil_filled : (room : List ℕ) → filled [] room ≡ room
 nil_filled room = ap (λ (l : List ℕ). l ++ room) (take_all (length room) [] (omega arith))
 

@@ -1,4 +1,4 @@
--- How many bytes a literal and its parts have.
+-- The sizes of a literal and its parts in bytes.
 use Rattle.std.proofs.Common.{◌≡◌, ℕ, ◌+◌, ◌≤◌, List, [], ◌∷◌, ◌++◌, length, sym, ap, ◌∙◌, append_assoc, append-nil, arith}
 use Rattle.std.specs.Str.{chars, IsUtf8}
 use Rattle.std.proofs.lemmas.Str.{encodes-chars}
@@ -21,7 +21,7 @@ use Rattle.litrs_grammar.specs.Raw.{hashes, raw_closing}
 pub length-chars : (bytes t : List ℕ) → IsUtf8 bytes → chars bytes ≡ t → length bytes ≡ byte_len t
 length-chars bytes t utf8 is = ap length (sym (encodes-chars bytes utf8)) ∙ ap byte_len is
 
--- some text stands before the end
+-- some text is before the end
 abbrev Ends : List ℕ → List ℕ → Type 0
 Ends t end = (front : List ℕ) × (front ++ end ≡ t)
 
@@ -52,7 +52,7 @@ literal_ends t (a_string d) is = string_ends string_kind t d is
 literal_ends t (a_byte_string d) is = string_ends byte_string_kind t d is
 literal_ends t (a_c_string d) is = string_ends c_string_kind t d is
 
--- What stands before the suffix of a literal, in bytes.
+-- The size of the text before the suffix of a literal, in bytes.
 pub suffix_fits : (bytes suffix : List ℕ) (d : Derivation) → IsUtf8 bytes → IsUtf8 suffix →
     chars suffix ≡ suffix_of d → IsLiteral (chars bytes) d → (front : ℕ) × (front + length suffix ≡ length bytes) × (length suffix ≡ byte_len (suffix_of d))
 suffix_fits bytes suffix d utf8 suffix_utf8 is literal =

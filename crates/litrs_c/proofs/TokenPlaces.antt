@@ -10,7 +10,7 @@ use Rattle.litrs_prefix.specs.Ends.{IsEndOf}
 use Rattle.litrs_c.specs.Tokens.{IsTokenFields, IsTokenAt}
 use Rattle.litrs_c.specs.declared.tokens.TokenFields.{TokenFields}
 
--- the end of a text is no longer than the text
+-- the end of a text is at most as long as the text
 pub end_fits : (text rest : List ℕ) → IsEndOf text rest → length rest ≤ length text
 end_fits text rest end =
     let all : length end.0 + length rest ≡ length text = sym (length-append end.0 rest) ∙ ap length end.1 in

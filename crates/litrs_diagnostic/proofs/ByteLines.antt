@@ -73,7 +73,7 @@ first_line_missing bs u none = sym (first_line-none (chars bs) (no_line_feed bs 
 
 -- ---- without a CR
 
--- a CR is no character at the end of a text whose bytes do not end with one
+-- a text whose bytes do not end with CR does not end with the character CR
 no_carriage_return : (bs : List ℕ) → IsUtf8 bs → ((front : List ℕ) → bs ≢ front ++ 13 ∷ []) →
     (front : List ℕ) → chars bs ≢ front ++ 13 ∷ []
 no_carriage_return bs u lacks front e =

@@ -30,7 +30,7 @@ columns_more cs c =
     ∙ ap (λ (l : List ℕ). shown cs ++ l) (append-nil (shown_char c)))
     ∙ sum_by-append char_columns (shown cs) (shown_char c)
 
--- and so many marks are below it
+-- and as many marks are below it
 pub below_more : (cs : List ℕ) (c mark : ℕ) →
     encode_utf8_all (replicate (columns (shown cs)) mark)
     ++ encode_utf8_all (replicate (columns (shown_char c)) mark)

@@ -1,4 +1,4 @@
--- How the starts of lines follow one another.
+-- The starts of lines follow one another.
 use Rattle.std.proofs.Common.{◌≡◌, ◌≤◌, ◌<◌, ◌+◌, ◌-◌, Bor, ℕ, suc, Bool, true, false, cond, List, [], ◌∷◌, ◌++◌, length, get_or, take, drop, slice_index, count_by, refl, sym, ap, subst, ◌∙◌, arith, lit<, inl, inr, append_assoc, length-append, length-take, length-drop, leb, leb-true, true≢false}
 use Rattle.std.specs.List.{list_any, AllWithin}
 use Rattle.std.specs.Char.{encode_utf8}

@@ -1,4 +1,4 @@
--- How wide a character is shown.
+-- The width of a character that is shown.
 use Rattle.std.proofs.Common.{◌≡◌, ◌≤◌, ◌<◌, ◌/◌, ◌%◌, ℕ, Bool, true, false, cond, nat_lt, List, [], ◌∷◌, ◌++◌, length, refl, sym, ap, ◌∙◌, arith, lit<, lit≤, add-zero, lt-ltb, le-ltb, le-leb, ne_eqb, inl, inr}
 use Rattle.std.specs.Char.{digit_char}
 use Rattle.std.specs.Char.Escape.{escape_unicode, hex_digit_at}

@@ -84,7 +84,7 @@ integer_fields d =
     ++ (codes "\n  digits " ++ (encode_utf8_all d.main
     ++ (codes "\n  fits" ++ (names_that_fit (integer_value d) ++ codes "\n")))))))
 
--- the line on the digits after a period, which may be none, and no line where there is no period
+-- the line on the digits after a period, even if there are none; no line if there is no period
 abbrev pub fraction_field : Option (List ℕ) → List ℕ
 fraction_field None = []
 fraction_field (Some digits) = field (codes "fraction") (encode_utf8_all digits)

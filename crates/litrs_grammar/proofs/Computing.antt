@@ -1,5 +1,6 @@
--- What examples are shown by. `unfolding computing` lets `refl` compute the tables of refusals and the bytes of a text; and
--- below a literal of each kind is one where each condition of its grammar computes.
+-- Proofs of examples. `unfolding computing` lets `refl` compute the tables of refusals and the
+-- bytes of a text.
+-- Below, a text is a literal of its kind if each condition of its grammar computes.
 use Rattle.std.specs.Prelude.{◌≡◌, ◌++◌, ℕ, List, Some, IsTrue, IsFalse, nat_le, true}
 use Rattle.std.specs.Char.{encode_utf8, is_ascii_digit}
 use Rattle.std.specs.List.{list_all, list_any}

@@ -1,4 +1,4 @@
--- What holds of all texts, topic by topic.
+-- Facts about all texts, topic by topic.
 pub mod Text
 pub mod Bool
 pub mod Integer

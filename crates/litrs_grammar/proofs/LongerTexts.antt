@@ -1,4 +1,4 @@
--- What longer texts keep of a refusal or a derivation, kind by kind.
+-- The parts of a refusal or a derivation that longer texts keep, kind by kind.
 pub mod Float
 pub mod Raw
 pub mod Integer

@@ -110,13 +110,13 @@ same_items w (a ∷ L) (b ∷ M) x y h g ends ends' same =
 pub heads_differ : (c d : ℕ) (x y : List ℕ) → c ∷ x ≡ d ∷ y → (c == d) ≡ false → ⊥
 heads_differ c d x y same differ = let at : c ≡ d = cc in both_ways (c == d) differ (eq-eqb c d at)
 
--- the closing quote is no item
+-- the closing quote is not an item
 pub quote_no_item : (w : Switches) (s : List ℕ) → NoItem w (34 ∷ s)
 quote_no_item w s (plain_item c) after h k same = let at : c ≡ 34 = cc in not_plain w c 34 h at refl
 quote_no_item w s (escape_item e) after h k same = let head = escape_head e after in heads_differ 92 34 _ _ (sym head.2 ∙ same) refl
 quote_no_item w s (continuation b) after h k same = heads_differ 92 34 _ _ same refl
 
--- the last character of a text that goes on after a part
+-- the last character of a text that is longer than a part
 pub without_last-append : (t : List ℕ) (c : ℕ) (x : List ℕ) → without_last (t ++ c ∷ x) ≡ t ++ without_last (c ∷ x)
 without_last-append [] c x = refl
 without_last-append (d ∷ []) c x = refl
@@ -126,7 +126,7 @@ pub last_of : (c : ℕ) (t : List ℕ) → (d : ℕ) × (without_last (c ∷ t) 
 last_of c [] = (c, refl)
 last_of c (d ∷ t) = let rec = last_of d t in (rec.0, ap (λ l. c ∷ l) rec.1)
 
--- the rest may begin with an item that the text goes on after
+-- the rest may begin with an item that text follows
 plain_no_refusal : (w : Switches) (c : ℕ) (t : List ℕ) → is_plain w c ≡ true → item_refusal w (c ∷ t) ≡ None
 unfolding item_refusal
 plain_no_refusal w c t h =
@@ -209,7 +209,7 @@ continuation_here w t h =
       },
     )
 
--- an escape that the text goes on after
+-- an escape that text follows
 escape_here : (w : Switches) (t : List ℕ) → escape_refusal w (without_last (92 ∷ t)) ≡ None → SomeItem w (92 ∷ t)
 unfolding escape_refusal
 escape_here w [] h = cc

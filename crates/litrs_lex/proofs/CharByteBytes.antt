@@ -139,7 +139,7 @@ escape_item kind bs value len r = record {
   boundary = r.boundary;
 }
 
--- a character that is no escape
+-- a character that is not an escape
 special_first : (kind : CharKind) (c : ℕ) (t : List ℕ) → (c == 39) ≡ false → is_special_whitespace c ≡ true → char_item_refusal kind (c ∷ t) ≡ Some (at_byte 0 UnescapedSpecialWhitespace)
 special_first kind c t quote special = if_false _ _ _ (and_left _ _ quote) ∙ (if_false _ _ _ quote ∙ if_true _ _ _ special)
 

@@ -1,4 +1,4 @@
--- What cuts and refusals say, read by name: each line fails if the definition says less.
+-- The fields of cuts and refusals, read by name: each line fails if the definition says less.
 use Rattle.std.specs.Prelude.{◌≡◌, ◌≢◌, ℕ, ◌+◌, ◌-◌, ◌≤◌, ◌<◌, Bool, List, ◌∷◌, ◌++◌, length, drop, take, slice_range, map, Some, IfSome, IsTrue, IsFalse}
 use Rattle.std.specs.Simd.Lanes.{mask_l, chunk}
 use Rattle.std.specs.Str.{chars, IsUtf8, IsCharBoundary}
@@ -123,7 +123,7 @@ quoted_cut_longer :
     IsTrue (is_item_list w (double_quote ∷ (is.parts.suffix ++ more)) is.parts.items)
 quoted_cut_longer w bytes offset cut is more = is.items_stay more
 
--- a refused text is no quoted string, and has one error, which is not an allocation failure
+-- a refused text is not a quoted string, and has one error, which is not an allocation failure
 quoted_refused :
     (w : Switches) (bytes : List ℕ) (offset : ℕ) (e : ParseError) → IsQuotedRefused w bytes offset e →
     HasNoDerivation (IsQuoted (chars (take offset bytes)) w (chars bytes))
@@ -173,7 +173,7 @@ raw_cut_body :
     × IsCharBoundary bytes (offset + (cut.0 + 1)) × IsCharBoundary bytes (cut.1 - (cut.0 + 1)) × IsCharBoundary bytes cut.1
 raw_cut_body unicode allow_nul offset bytes cut is = (is.in_order, is.start, is.end, is.suffix)
 
--- a refused text is no raw string, and has one error
+-- a refused text is not a raw string, and has one error
 raw_refused :
     (unicode allow_nul : Bool) (offset : ℕ) (bytes : List ℕ) (e : ParseError) → IsRawRefused unicode allow_nul offset bytes e →
     HasNoDerivation (IsRawOf unicode allow_nul (chars (drop offset bytes)))

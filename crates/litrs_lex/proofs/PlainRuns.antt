@@ -1,5 +1,5 @@
--- Runs of plain characters, from a search in bytes. How many bytes pass a test that has one answer for all characters from
--- 128 on is how many the characters have that pass.
+-- Runs of plain characters, by a search in bytes. If a test has one answer for all characters from
+-- 128 on, as many bytes pass it as the characters that pass have.
 use Rattle.std.proofs.Common.{◌≡◌, ℕ, suc, ◌+◌, ◌<◌, ◌≤◌, Bool, true, false, cond, ltb, List, [], ◌∷◌, ◌++◌, length, drop, take, get_or, refl, sym, ap, subst, ◌∙◌, arith, inl, inr, length-append}
 use Rattle.std.specs.Prelude.{encode_utf8, encode_utf8_all}
 use Rattle.std.specs.List.{prefix_len, list_all, take_while}
@@ -126,7 +126,7 @@ char_run p h alike bs u =
       stops = first_passes-rest p bs;
     }
 
--- the bytes from a place on up to the first that is no plain character are a run
+-- the bytes from a place on up to the first that is not a plain character are a run
 pub plain_run : (w : Switches) (bytes : List ℕ) (from end : ℕ) → IsUtf8 bytes → IsCharBoundary bytes from → end ≡ from + prefix_len (is_plain w) (drop from bytes) →
     IsPlainRun w bytes from end
 plain_run w bytes from end whole start is =
@@ -144,7 +144,8 @@ plain_run w bytes from end whole start is =
       stops = first_passes-alike p w.unicode _ (plain_alike w) text ∙ (ap (first_passes p) (sym same) ∙ r.stops);
     }
 
--- the search stops at what is no plain character, where it looks for backslashes, and for the bytes that the switches exclude
+-- the search stops at a character that is not plain if it looks for backslashes, and for the bytes
+-- that the switches exclude
 pub same_tests : (quote return slash zero ascii u n : Bool) →
     not (quote || return || (true && slash) || (not n && zero) || (not u && not ascii)) ≡ (not quote && not slash && not return && (u || ascii) && (n || not zero))
 same_tests true r s z a u n = refl
@@ -175,7 +176,7 @@ special_run u e n text bytes from end is place =
     ap (λ (l : List ℕ). prefix_len (is_plain (switches u e n)) (drop from l)) is in
     omega arith
 
--- a backslash is no plain character, so a run is empty there
+-- a backslash is not a plain character, so a run is empty there
 slash_first : (w : Switches) (rest : List ℕ) → first_passes (λ c. c == 92) rest ≡ true → prefix_len (is_plain w) rest ≡ 0
 slash_first w [] h = refl
 slash_first w (b ∷ rest) h = ap (λ c. prefix_len (is_plain w) (c ∷ rest)) (eqb-true b 92 h)

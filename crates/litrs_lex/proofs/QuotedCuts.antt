@@ -48,7 +48,7 @@ refused_of w bytes offset e is =
       closes = λ shut. quoted_open front w t (refusal_of e) shut table;
     }
 
--- Where the rest after some items is refused, the text is
+-- If the rest after some items is refused, so is the text
 
 pub refused_at : (w : Switches) (bytes : List ℕ) (offset place : ℕ) (h : List ℕ → Type 0) (e f : Refusal) → IsReadTo w bytes offset place h →
     item_refusal w (chars (drop place bytes)) ≡ Some e → f ≡ shifted place e → IsQuotedRefusal (chars (take offset bytes)) w (chars bytes) f

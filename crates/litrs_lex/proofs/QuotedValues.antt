@@ -81,12 +81,12 @@ begun_value w bytes offset place h q r is =
     first_items w r.items q.items (chars (drop place bytes)) q.suffix r.taken (body_stands w q.items q.suffix is.body)
     (append_cancel_left (chars (take offset bytes)) _ _ (r.spells ∙ sym is.spells))
 
--- what fits is no longer than the room, nor than a greater one
+-- a value that fits is at most as long as the room, and as a greater one
 pub within_is_not_longer : (w : Switches) (bytes : List ℕ) (offset room more : ℕ) → HasValueWithin w bytes offset room → room ≤ more → IsLongerThan w bytes offset more → ⊥
 within_is_not_longer w bytes offset room more within kept (place, read) =
     let most = begun_value w bytes offset place _ within.parts read within.grammar in let longer = read.held in let fits = within.fits in omega arith
 
--- a refused text is no literal
+-- a refused text is not a literal
 pub none_refused : (w : Switches) (bytes : List ℕ) (offset : ℕ) (e : ParseError) (q : QuotedParts) → IsBodyRefused w bytes offset e →
     IsQuoted (chars (take offset bytes)) w (chars bytes) q → ⊥
 none_refused w bytes offset e q refused is = quoted_texts_are_not_refused (chars (take offset bytes)) w (chars bytes) q _ is refused.table
@@ -115,7 +115,7 @@ some_of w bytes offset place n h u at b is free other v held =
       is_value = held cut.parts cut.only.0;
     }
 
--- it has one, and there is no memory for its value
+-- it has one, and its value cannot be allocated
 pub no_memory_of : (w : Switches) (bytes : List ℕ) (offset place n : ℕ) (h : List ℕ → Type 0) (e : ParseError) → IsUtf8 bytes → IsCharBoundary bytes offset →
     (b : IsReadBody w bytes offset h place) → n ≡ length (body_value b.read.items) → item_refusal w (chars (drop place bytes)) ≡ None → (n ≡ place - offset → ⊥) → IsOutOfMemory e →
     IsQuotedOutOfMemory w bytes offset e

@@ -78,7 +78,7 @@ quote_raw true false = refl
 quote_raw false true = refl
 quote_raw false false = refl
 
--- Where no closing begins
+-- Places at which a closing does not begin
 
 no_closing_run : (u a : Bool) (n : ℕ) (run rest : List ℕ) → list_all (is_ordinary (raw_special u a)) run ≡ true → NoClosingIn n run rest
 no_closing_run u a n [] rest all i below = absurd (omega arith)
@@ -292,7 +292,7 @@ pub suffix_refused : (u a : Bool) (n start place : ℕ) (bytes : List ℕ) → I
 suffix_refused u a n start place bytes utf8 s c none = let x = chars (drop (place + 1 + n) bytes) in
     closed_refusal u a n start place bytes utf8 s c ∙ ap (λ v. if not v then Some (at_byte (place + 1 + n) (suffix_refusal x)) else None) none
 
--- what is no suffix is not empty
+-- a text that is not a suffix is not empty
 pub suffix_within : (bytes : List ℕ) (place : ℕ) → place ≤ length bytes → is_suffix (chars (drop place bytes)) ≡ false → place + 1 ≤ length bytes
 suffix_within bytes place within none = go (drop place bytes) refl none
   where
@@ -519,7 +519,7 @@ none_at bytes text place same is = ap (λ k. drop k text) (is ∙ ap length same
 pub closes_there : (n : ℕ) (rest : List ℕ) → (first_passes is_quote rest && not (begins_with (raw_closing n) rest)) ≡ false → first_passes is_quote rest ≡ true → begins_with (raw_closing n) rest ≡ true
 closes_there n rest outer quote = not-false _ (ap (λ v. v && not (begins_with (raw_closing n) rest)) (sym quote) ∙ outer)
 
--- The same of the bytes that the code looks at
+-- Likewise for the bytes that the code looks at
 
 pub stop_of : (u a : Bool) (n start place : ℕ) (bytes text : List ℕ) → bytes ≡ text → IsStop u a n start bytes place → IsStop u a n start text place
 stop_of u a n start place bytes text same s = subst (λ (l : List ℕ). IsStop u a n start l place) same s

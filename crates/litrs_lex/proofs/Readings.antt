@@ -132,7 +132,7 @@ end_held w bytes offset place h e = record {
   ends = e.ends;
 }
 
--- the value is no longer than the text, with an item too
+-- the value is at most as long as the text, with an item too
 pub value_small : (w : Switches) (bytes rest : List ℕ) (offset place len : ℕ) (v : Option Unescape) (h : List ℕ → Type 0) → IsReadTo w bytes offset place h → rest ≡ drop place bytes →
     IsItemAt w rest len v → length bytes < 2 ^ 64 → (x : List ℕ) × (h x × (length x + length (item_bytes v) < 2 ^ 64))
 value_small w bytes rest offset place len v h r is item small =

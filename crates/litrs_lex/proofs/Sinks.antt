@@ -1,4 +1,4 @@
--- What is put into a room and into a container.
+-- Values in a room and in a container.
 use Rattle.std.proofs.Common.{◌≡◌, ℕ, ◌+◌, ◌-◌, ◌≤◌, ◌<◌, Bool, true, false, ◌||◌, List, [], ◌∷◌, ◌++◌, length, drop, take, sym, ap, subst, ◌∙◌, append_assoc, length-append, arith}
 use Rattle.std.specs.Prelude.{if◌then◌else◌}
 use Rattle.std.specs.Str.{IsUtf8}
@@ -10,7 +10,7 @@ use Rattle.std.proofs.lemmas.Str.{IsUtf8-encode, IsUtf8-append, encode_ascii}
 use Rattle.litrs_base.specs.Characters.{is_ascii}
 use Rattle.litrs_lex.specs.Container.{IsFilledTo}
 
--- where 16 bytes are moved, those after the part are no part of the value
+-- if 16 bytes are moved, those after the part do not belong to the value
 pub part_moved : (room before text piece : List ℕ) (len start count : ℕ) → piece ≡ take (start + 16 - start) (drop start text) → count ≤ 16 → 16 ≤ length text - start →
     length before ≡ len → take (len + length piece) room ≡ before ++ piece → take (len + count) room ≡ before ++ take count (drop start text)
 part_moved room before text piece len start count is few enough size copied =

@@ -1,4 +1,4 @@
--- Whether an attribute begins after `#!`, by the token at the front.
+-- The token at the front decides if an attribute begins after `#!`.
 use Rattle.std.proofs.Common.{◌≡◌, ◌⊎◌, inl, inr, ℕ, true, List, [], ◌∷◌, None, refl, sym, ap, subst, ◌∙◌}
 use Rattle.std.specs.Prelude.{◌==◌, ◌&&◌}
 use Rattle.std.proofs.lemmas.Bool.{eqb-true, true≢false, false≢true}

@@ -13,7 +13,7 @@ some_none r e = cc
 some_one : (r u : List ℕ) → Some r ≡ Some u → r ≡ u
 some_one r u e = cc
 
--- the bodies of a comment and of so many that it is in
+-- the bodies of a comment and of the `n` comments around it
 abbrev Bodies : ℕ → (t rest : List ℕ) → Type 0
 Bodies zero t rest = IsBody t rest
 Bodies (suc n) t rest = (after : List ℕ) × IsBody t after × Bodies n after rest
@@ -68,7 +68,7 @@ body_end (closed {c = c} {d = d} {rest = rest} h) = step_last c d rest h
 body_end (comment {c = c} {d = d} {t = t} o a b) = step_open 0 c d t o ∙ (after_body a 0 ∙ body_end b)
 body_end (character {c = c} {t = t} plain a) = one_on 0 c t plain ∙ body_end a
 
--- where the code finds no end, there is no body
+-- if the code does not find an end, there is no body
 pub no_body : (t : List ℕ) → block_end 0 t ≡ None → (rest : List ℕ) → IsBody t rest → ⊥
 no_body t none rest h = some_none rest (sym none ∙ body_end h)
 

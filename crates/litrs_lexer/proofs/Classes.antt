@@ -105,7 +105,7 @@ white_starts_none c h = elim (white_six (c == 32) (nat_le 9 c && nat_le c 13) (c
   | inr (inr (inr (inr (inr e)))) ↦ at_value c 8233 e wide_starts.4
 ]
 
--- how a literal opens that is no bool
+-- openings of literals that are not bools
 
 abbrev Opening : ℕ → List ℕ → Type 0
 Opening c t =

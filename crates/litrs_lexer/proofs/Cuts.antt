@@ -155,7 +155,7 @@ byte_opens c (d ∷ t) h =
     (subst (λ (k : ℕ). opens_quoted (98 ∷ k ∷ t) ≡ true) (sym q)
     (and_from (opens (98 ∷ 39 ∷ t)) (not (is_bool (first_name (98 ∷ 39 ∷ t)))) refl (ap not (first_bool 98 (39 ∷ t) (starts_identifier 98) refl))))
 
--- a name that begins with `b`, `c` or `r` is no bool
+-- a name that begins with `b`, `c` or `r` is not a bool
 pub prefix_opens : (c : ℕ) (t : List ℕ) → begins_prefix c ≡ true → opens_quoted (c ∷ t) ≡ opens (c ∷ t)
 prefix_opens c t h =
     let other : begins_bool c ≡ false = grind (arith, nat_tests) in

@@ -207,7 +207,7 @@ literal_token_stays : (t rest m : List ℕ) → IsToken Literal t rest → is_em
 literal_token_stays t [] m is some = absurd (true≢false some)
 literal_token_stays t (c ∷ rest) m is some = (is.0, stays t is.0 c rest m is.1)
 
--- what begins there is no bool
+-- a bool does not begin there
 no_bool_open : (t m : List ℕ) → opens_quoted t ≡ true → is_bool (first_name (t ++ m)) ≡ false
 no_bool_open [] m h = absurd (false≢true h)
 no_bool_open (c ∷ t) m h = go (is_bool (first_name (c ∷ (t ++ m)))) refl

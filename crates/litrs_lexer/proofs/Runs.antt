@@ -1,4 +1,4 @@
--- What follows the characters at the front of a text that pass a test, found in its bytes.
+-- The text after the characters at its front that pass a test, found in its bytes.
 use Rattle.std.proofs.Common.{◌≡◌, ℕ, ◌+◌, Bool, true, false, not, List, [], ◌∷◌, ◌++◌, length, drop, refl, sym, ap, subst, ◌∙◌, arith}
 use Rattle.std.specs.List.{prefix_len, list_all, position_or_len}
 use Rattle.std.specs.Str.{chars, IsUtf8, IsCharBoundary}

@@ -1,5 +1,5 @@
 -- The token at the front of a text. The Rust Reference, "Lexical structure", edition 2021. The rule
--- of each kind stands alone: no kind comes before another.
+-- of each kind is independent: no kind takes precedence over another.
 use Rattle.std.specs.Prelude.{ℕ, Bool, true, false, List}
 use Rattle.litrs_lexer.specs.Comment.{IsLineComment, IsBlockComment, IsUnterminatedBlockComment}
 use Rattle.litrs_lexer.specs.Identifier.{IsIdentifier, IsRawIdentifier, IsUnknownPrefix}

@@ -52,7 +52,7 @@ fn is_malformed(kind: TokenKind) -> bool
     }
 }
 
-/// Like [`token_may_change`], for a token of this kind, which is no malformed literal.
+/// Like [`token_may_change`], for a token of this kind, which is not a malformed literal.
 fn is_open(kind: TokenKind, text: &str, rest: &str) -> bool
     ensures { result ≡ is_open kind (chars text.now) (chars rest.now) }
 {

@@ -1,4 +1,5 @@
--- The reports on the groups that end with lines: each list of lines has them, and how they go on from line to line.
+-- The reports on the groups that end with lines: each list of lines has them, and each line
+-- continues them.
 use Rattle.std.proofs.Common.{◌≡◌, ◌∙◌, inl, inr, ℕ, List, [], ◌∷◌, ◌++◌, refl, sym, ap, subst, append_assoc}
 use Rattle.std.specs.Prelude.{map, codes, Result, Ok, Err, OnOk, is_ok, if◌then◌else◌}
 use Rattle.std.specs.Str.{chars, IsUtf8}
@@ -152,7 +153,7 @@ held_adds held left e none is =
       none,
     )
 
--- after it, the report on a line that is no text
+-- after it, the report on a line that is not UTF-8
 pub other_reported : (held line left out : List ℕ) → IsNoText line → IsHeldReport held left out →
     AreEndedReports held (line ∷ []) left (out ++ codes "error input is not UTF-8\n")
 other_reported held line left out other is = (

@@ -61,7 +61,7 @@ module _ {O : Type 0} (contents : O → Option (List ℕ)) (has_failed write_fai
   pub leaves_as : (r : Result (Unit {0}) RunError) (old new : Reporter O) (P Q : Adding) → ((left out : List ℕ) → P left out → Q left out) → Left r old new P → Left r old new Q
   leaves_as r old new P Q are left = leaves_from r old old new P Q (same_reporter old) refl refl are left
 
-  -- these bytes are added, and none is written
+  -- these bytes are added, but not written
   pub leaves_added : (old new : Reporter O) (P : Adding) (out : List ℕ) → IsSameReporter old new → new.writer.now ≡ old.writer.now → P new.collector.now out →
       string_bytes new.unwritten.now ≡ string_bytes old.unwritten.now ++ out → Left (Ok tt) old new P
   leaves_added old new P out same writer is added = record {

@@ -236,7 +236,7 @@ takes_longer held all rest between out so_far =
     let longer = ended-longer held so_far.lines rest between out so_far.ended in
     (longer.0, longer.1, subst (λ (ls : List (List ℕ)). AreEndedReports held ls longer.0 (out ++ longer.1)) (sym so_far.is) longer.2)
 
--- where none is left all were taken
+-- if no line is left, all were taken
 pub takes_all : (held : List ℕ) (all rest : List (List ℕ)) (left out : List ℕ) → rest ≡ [] → TakesOn held all rest left out → AreEndedReports held all left out
 takes_all held all rest left out none so_far =
     subst (λ (ls : List (List ℕ)). AreEndedReports held ls left out) (sym (so_far.is ∙ ap (λ (ls : List (List ℕ)). so_far.lines ++ ls) none ∙ append-nil so_far.lines)) so_far.ended
@@ -547,7 +547,7 @@ lines_are_unique lines last each none = (ended_parts_of-spelled lines last each 
 
 -- ---- returns
 
--- the byte is no CR
+-- the byte is not CR
 abbrev NoCr : ℕ → Type 0
 NoCr b = b ≡ 13 → ⊥
 

@@ -201,7 +201,7 @@ line_of kind t items rest spells taken (inr (inr (e, is, grammar))) =
       shape = inl refl;
     }
 
--- a text that begins with the front of the kind, and is open with an LF after it, is no literal
+-- a text that begins with the front of the kind, and is open with an LF after it, is not a literal
 no_quoted : (kind : StringKind) (t x : List ℕ) → quoted_front kind ++ x ≡ t → IsOpenLine kind t → HasNoDerivation (IsLiteral t)
 no_quoted kind t x spells line = elim (quoted_texts_are_decided (quoted_front kind) (switches_of kind) x) [
   | inl q ↦ absurd (open_is_none kind t q.0 (subst (λ (l : List ℕ). IsQuotedLiteral kind l q.0) spells q.1) line)
@@ -259,7 +259,7 @@ quoted_other string_kind = refl
 quoted_other byte_string_kind = refl
 quoted_other c_string_kind = refl
 
--- an LF after the text is no part of a front
+-- an LF after the text does not belong to a front
 front_before_line : (front x t : List ℕ) → list_all is_other front ≡ true → front ++ x ≡ t ++ 10 ∷ [] → (y : List ℕ) × (front ++ y ≡ t)
 front_before_line [] x t others is = (t, refl)
 front_before_line (c ∷ front) x [] others is =
@@ -324,7 +324,7 @@ raw_before_line kind n b g =
       unclosed = sym (closing_before_line n b) ∙ g.unclosed;
     }
 
--- what follows in a body is one
+-- a later part of a raw body is a raw body
 later_unclosed : (part a b : List ℕ) → occurs part (a ++ b) ≡ false → occurs part b ≡ false
 later_unclosed part [] b none = none
 later_unclosed part (c ∷ a) b none = later_unclosed part a b (or_parts (begins_with part (c ∷ (a ++ b))) _ none).1
@@ -368,7 +368,7 @@ string_begins t begins = elim (texts_are_decided literal_parse (t ++ 10 ∷ []))
       (closed.kind, by_parts closed.kind closed.parts t closing closed.body (string_of closed.kind closed.parts ((t ++ 10 ∷ []) ++ closing) closed.literal)))
 ]
 
--- a text that is parsed as a string of no kind
+-- a text that is not parsed as a string of any kind
 pub other_is_shut : (t : List ℕ) (o : Dispatch) → o ≡ dispatch t → ((kind : StringKind) → o ≡ parsed_as (string_literal_of kind) → ⊥) →
     Begins literal_parse (t ++ 10 ∷ []) → ⊥
 other_is_shut t o named other begins =

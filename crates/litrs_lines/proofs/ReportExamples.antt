@@ -50,7 +50,7 @@ value-none = refl
 
 -- Lines
 
--- of no part none is ended, and none is open
+-- without parts, no part has ended, and no part is open
 parts-none : (ended_parts [] ≡ []) × (open_part [] ≡ [])
 parts-none = (refl, refl)
 

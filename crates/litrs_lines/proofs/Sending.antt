@@ -46,7 +46,7 @@ stops_later a b c p q x y z whole one part is =
           ∙ take-append_seam (one.written ++ part.written) (rest ++ z);
     }
 
--- the same of a longer whole
+-- likewise for a longer whole
 pub stops_longer : (a c : Option (List ℕ)) (old out more : List ℕ) → AppendsBeginning a c (old ++ out) →
     AppendsBeginning a c (old ++ (out ++ more))
 stops_longer a c old out more part =

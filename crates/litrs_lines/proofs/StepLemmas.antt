@@ -46,7 +46,7 @@ line_feed_char = refl
 pub chars-line_feed : (t : List ℕ) → IsUtf8 t → chars (t ++ 10 ∷ []) ≡ chars t ++ 10 ∷ []
 chars-line_feed t u = chars-append t (10 ∷ []) u ∙ ap (λ (c : List ℕ). chars t ++ c) line_feed_char
 
--- Whether a text with LF after it begins a literal is decided by its refusal.
+-- Its refusal decides if a text with LF after it begins a literal.
 
 by_kind : (t : List ℕ) (test : Bool) (r : Refusal) → is_open r.kind ≡ test → IsRefusal literal_parse (chars t ++ 10 ∷ []) r → BeginsByLine t ⊎ (BeginsByLine t → ⊥)
 by_kind t true r is table = inl ((line_ends_are_decided literal_parse (chars t) r table).0 is)
@@ -211,7 +211,7 @@ held_is_cut held end is len =
     let boundary : IsCharBoundary held (length (without_last held)) = IsCharBoundary-at_seam held (without_last held) (10 ∷ []) (sym lines.0) line_feed_is_utf8 in
     (subst (IsCharBoundary held) (sym place) boundary, ap (λ (x : List ℕ). x ++ 10 ∷ []) front ∙ lines.0)
 
--- the same of what is known not to be empty
+-- likewise for text that is known not to be empty
 pub cut_of_held : (held : List ℕ) (test : Bool) → IsHeld held → test ≡ (length held == 0) → test ≡ false →
     IsCharBoundary held (length held - 1) × (take (length held - 1) held ++ 10 ∷ [] ≡ held)
 cut_of_held held test is tests fails =

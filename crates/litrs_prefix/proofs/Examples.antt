@@ -1,4 +1,5 @@
--- What errors at the front of a longer text say, read by name: each line fails if the definition says less.
+-- The fields of errors at the front of a longer text, read by name: each line fails if the
+-- definition says less.
 use Rattle.std.specs.Prelude.{◌≡◌, ◌<◌, ◌+◌, ℕ, List, ◌++◌, IsTrue}
 use Rattle.litrs_base.specs.CharEnd.{IsCutBy}
 use Rattle.litrs_base.specs.Refusal.{refusal_of, char_span_of, shifted, shifted_span}

@@ -31,7 +31,7 @@ literal_len bs rest is =
 pub within : (bs rest : List ℕ) → HasLiteralBefore bs rest → length rest ≤ length bs
 within bs rest is = not_longer bs rest is.end
 
--- what opens has the whole text, which is no literal
+-- the literal that begins has the whole text, which is not a literal
 pub whole_malformed : (bs : List ℕ) → IsUtf8 bs → opens (chars bs) ≡ true → after_opened (chars bs) ≡ [] → first_passes is_ascii_digit (chars bs) ≡ false →
     HasNoDerivation (IsLiteral (chars bs)) → IsMalformedLen bs (length bs)
 whole_malformed bs u opens_at after digit invalid =

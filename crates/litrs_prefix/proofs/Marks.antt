@@ -1,4 +1,4 @@
--- What an error at the front of a text marks: the bytes of the source can be cut there.
+-- The bytes of the source can be cut at the places that an error at the front of a text marks.
 use Rattle.std.proofs.Common.{◌≡◌, ℕ, ◌+◌, ◌≤◌, List, ◌++◌, length, take, drop, Option, Some, None, IfSome, IsUtf8, inl, inr, refl, sym, ap, subst, ◌∙◌, length-drop, arith}
 use Rattle.std.specs.Prelude.{slice_index, option_map, unwrap_or}
 use Rattle.std.specs.Str.{chars, IsCharBoundary}

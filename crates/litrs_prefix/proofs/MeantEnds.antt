@@ -1,4 +1,4 @@
--- What follows what was meant as a literal is an end of the text, without its first character.
+-- The text after a malformed prefix is an end of the text, without its first character.
 use Rattle.std.proofs.Common.{◌≡◌, ℕ, ◌+◌, ◌-◌, ◌<◌, ◌≤◌, Bool, true, false, not, ◌&&◌, ◌||◌, List, [], ◌∷◌, ◌++◌, take, drop, length, refl, sym, ap, subst, ◌∙◌, length-drop, arith}
 use Rattle.std.specs.Prelude.{◌==◌, if◌then◌else◌, encode_utf8_all}
 use Rattle.std.specs.Char.{is_ascii_digit}

@@ -16,8 +16,8 @@ use Rattle.litrs_prefix.specs.GoesOn.{IsSettled, PrefixGoesOn, IsIntegerAndPerio
 use Rattle.litrs_prefix.proofs.LongerTexts.{whole, stays}
 use Rattle.litrs_prefix.proofs.Unique.{unique}
 
--- Two ways to cut a text: the first part of the one goes on with that of the other, or the other way
--- round, by some character.
+-- Two ways to cut a text: the first part of the one is as long as that of the other, or longer, or
+-- shorter by at least one character.
 split : (a b c d : List ℕ) → a ++ b ≡ c ++ d →
     ((m : List ℕ) × (a ≡ c ++ m) × (m ++ b ≡ d)) ⊎ ((x : ℕ) × (m : List ℕ) × (c ≡ a ++ x ∷ m) × (b ≡ x ∷ (m ++ d)))
 split a b [] d h = inl (a, refl, h)

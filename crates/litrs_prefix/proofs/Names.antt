@@ -103,7 +103,7 @@ name_is_bool b r = go (first_passes is_xid_continue r) refl
         let rest : after_name t ≡ r = same_rest b d.0 r (after_name t) (ap (λ (l : List ℕ). l ++ after_name t) d.1 ∙ name_and_rest t) in
         true≢false (sym e ∙ (ap (first_passes is_xid_continue) (sym rest) ∙ bool_stops b r))))
 
--- what no name goes on or begins with
+-- characters that do not continue or begin a name
 pub quote_stops : is_xid_continue 39 ≡ false
 quote_stops = is_xid_continue-ascii 39 (omega arith)
 

@@ -1,4 +1,4 @@
--- Where numbers end: before a period that belongs to none, and after the digits of a base.
+-- Ends of numbers: before a period that does not belong to one, and after the digits of a base.
 use Rattle.std.proofs.Common.{◌≡◌, ℕ, Bool, true, false, not, ◌&&◌, List, [], ◌∷◌, ◌++◌, take, drop, Option, Some, None, refl, sym, ap, subst, ◌∙◌, inl, inr, arith}
 use Rattle.std.specs.Char.{is_ascii_digit}
 use Rattle.std.specs.List.{prefix_len, list_all}

@@ -21,7 +21,7 @@ use Rattle.litrs_grammar.proofs.FloatCuts.{IsCut, after_decimals}
 use Rattle.litrs_prefix.specs.Prefix.{ends_suffix, ends_integer, ends_float, is_bare, gives_period}
 use Rattle.litrs_prefix.proofs.Suffixes.{same_suffix}
 
--- what begins no name is no letter and no `_`
+-- a character that does not begin a name is neither a letter nor `_`
 pub no_start : (c : ℕ) → starts_identifier c ≡ false → (is_ascii_alphabetic c || (c == 95)) ≡ false
 no_start c none = elim (cases_lt c 128) [
   | inl low ↦ (let e : is_xid_start c ≡ is_ascii_alphabetic c = is_xid_start-ascii c low in
@@ -29,7 +29,7 @@ no_start c none = elim (cases_lt c 128) [
   | inr high ↦ grind (arith, nat_tests)
 ]
 
--- nor, where it is no decimal digit, a digit of any base
+-- if it is not a decimal digit either, it is not a digit of any base
 no_digit : (base : IntegerBase) (c : ℕ) → starts_identifier c ≡ false → is_ascii_digit c ≡ false → is_digit_or_underscore base c ≡ false
 no_digit Binary c s d = let n = no_start c s in grind (arith, nat_tests)
 no_digit Octal c s d = let n = no_start c s in grind (arith, nat_tests)
@@ -119,7 +119,7 @@ same_integer s t r u d e h g f i k j same =
 
 -- floats
 
--- a letter alone is no exponent, and where there is no period there is one
+-- a letter alone is not an exponent, and if there is no period, there is an exponent
 lone_letter : (c : ℕ) → is_exponent (c ∷ []) ≡ true → ⊥
 unfolding is_exponent
 lone_letter c h = false≢true (and_parts _ _ h).1
@@ -157,7 +157,8 @@ longer_float d s r h =
     ∙ (append_assoc d.integer (f ++ (d.exponent ++ d.suffix)) r
     ∙ ap (λ (l : List ℕ). d.integer ++ l) (append_assoc f (d.exponent ++ d.suffix) r ∙ ap (λ (l : List ℕ). f ++ l) (append_assoc d.exponent d.suffix r)))
 
--- What follows the decimal digits decides which of the two it is: `e` or `E`, or a period that an integer would take.
+-- The text after the decimal digits decides which of the two it is: `e` or `E`, or a period that an
+-- integer would take.
 abbrev pub is_mark : List ℕ → Bool
 is_mark t = first_passes is_e t || gives_period t
 

@@ -1,4 +1,4 @@
--- Where a literal stands at the front of a text, one opens there.
+-- If a literal is at the front of a text, one begins there.
 use Rattle.std.proofs.Common.{◌≡◌, ℕ, zero, suc, Bool, true, false, not, ◌&&◌, List, [], ◌∷◌, ◌++◌, refl, sym, ap, ◌∙◌}
 use Rattle.std.specs.Prelude.{◌==◌, if◌then◌else◌}
 use Rattle.std.specs.Char.{is_ascii_digit}
@@ -31,7 +31,7 @@ open_bool : (b : Bool) (r : List ℕ) → ends_bool r ≡ true → opens (bool_t
 open_bool true r h = ap is_bool (bool_first true r h)
 open_bool false r h = ap is_bool (bool_first false r h)
 
--- a char is no lifetime
+-- a char is not a lifetime
 no_lifetime : (a : CharItem) (x : List ℕ) → begins_lifetime (char_item_text a ++ 39 ∷ x) ≡ false
 no_lifetime (plain_char b) x = go (starts_identifier b)
   where

@@ -1,4 +1,4 @@
--- What is left after what begins at the front of a text stays before more text.
+-- The rest after the piece that begins at the front of a text stays the same before more text.
 use Rattle.std.proofs.Common.{◌≡◌, ◌⊎◌, inl, inr, ℕ, zero, suc, ◌+◌, ◌≤◌, Bool, true, false, not, cond, ◌&&◌, ◌||◌, List, [], ◌∷◌, ◌++◌, drop, length, refl, sym, ap, subst, ◌∙◌, arith}
 use Rattle.std.specs.Prelude.{◌==◌, if◌then◌else◌}
 use Rattle.std.specs.Char.{is_ascii_digit}
@@ -138,7 +138,7 @@ past_single_grows B m base e (c ∷ t) =
 single_grows : (B : List ℕ → Type 0) (m : List ℕ) → Base B m → (t : List ℕ) → Grown B (after_single_quote t) (after_single_quote (t ++ m)) m
 single_grows B m base t = same B m _ _ _ _ (past_single_quote_is t) (past_single_quote_is (t ++ m)) (past_single_grows B m base false t)
 
--- one character, which is no line feed, is all that is passed
+-- a single character, which is not a line feed, is passed
 one_char : (c : ℕ) → (c ∷ [] ≡ 10 ∷ [] → ⊥) → past_single_quote false (c ∷ []) ≡ []
 one_char c other = go (c == 10) ((c == 39) && true) refl
   where
@@ -330,7 +330,7 @@ c_grows B m base (c ∷ t) h =
     raw false true e f h = (e, h)
     raw false false e f h = absurd (false≢true h)
 
--- The look ahead is at no `'`, or the text is none that one changes.
+-- The look ahead does not see `'`, or the text is not one that `'` changes.
 abbrev Sees : (List ℕ → Type 0) → (m t : List ℕ) → Type 0
 Sees B m t = (first_passes is_single_quote m ≡ false) ⊎ ((is_quoted_line_feed t ≡ false) × ((y : List ℕ) → B y))
 
@@ -541,7 +541,8 @@ begins_stays (c ∷ t) m h some =
         let both = and_parts (c == 39) (not (begins_lifetime t)) h in
         rw both.0 (ap not (at t (eqb-true c 39 both.0) some (not_true (begins_lifetime t) both.1)))
 
--- Where something follows what begins at the front, it begins in each longer text, and more follows.
+-- If something follows the piece that begins at the front, it begins in each longer text, and more
+-- follows.
 pub opened_stays : (t m : List ℕ) → opens t ≡ true → is_quoted_line_feed t ≡ false → is_empty (after_opened t) ≡ false →
     (opens (t ++ m) ≡ true) × (after_opened (t ++ m) ≡ after_opened t ++ m)
 opened_stays t m h other some = (begins_stays t m h some, left_stays t m h other some)

@@ -1,4 +1,4 @@
--- Literals without a suffix, before a rest that no name begins or goes on with.
+-- Literals without a suffix, before a rest that neither begins nor continues a name.
 use Rattle.std.proofs.Common.{◌≡◌, inl, inr, ℕ, ◌+◌, ◌<◌, true, false, not, ◌&&◌, ◌||◌, cond, List, [], ◌∷◌, ◌++◌, drop, take, Some, refl, sym, ap, subst, ◌∙◌, append-nil, arith}
 use Rattle.std.specs.Prelude.{◌==◌, ⊤}
 use Rattle.std.specs.Char.{is_ascii, is_ascii_digit, is_ascii_alphanumeric}
@@ -37,7 +37,7 @@ use Rattle.litrs_prefix.proofs.Judged.{string_at, to_string, string_follows}
 abbrev pub HasLiteral : List ℕ → List ℕ → Type 0
 HasLiteral t r = (d : Derivation) × HasPrefix t d r
 
--- what follows
+-- the rest
 
 starts_continue : (c : ℕ) → starts_identifier c ≡ true → is_xid_continue c ≡ true
 starts_continue c h = elim (or_cases (c == 95) (is_xid_start c) h) [
@@ -45,12 +45,12 @@ starts_continue c h = elim (or_cases (c == 95) (is_xid_start c) h) [
   | inr start ↦ is_xid_start-is_xid_continue c start
 ]
 
--- what no name goes on with, no name begins with
+-- a character that does not continue a name does not begin one
 pub no_start : (t : List ℕ) → first_passes is_xid_continue t ≡ false → first_passes starts_identifier t ≡ false
 no_start [] h = refl
 no_start (c ∷ t) h = false_from_ne_true (starts_identifier c) (λ e. true≢false (sym (starts_continue c e) ∙ h))
 
--- an ASCII character that is no letter, no digit and no `_`
+-- an ASCII character that is neither a letter nor a digit nor `_`
 pub name_end : (c : ℕ) → (is_ascii c && not (is_ascii_alphanumeric c || (c == 95))) ≡ true → is_xid_continue c ≡ false
 name_end c h =
     let both = and_parts (is_ascii c) (not (is_ascii_alphanumeric c || (c == 95))) h in

@@ -12,7 +12,7 @@ pub err_of : {T E : Type 0} (r : Result T E) (e : E) → IsErrAnd r (λ x. x ≡
 err_of (Ok x) e is = absurd is
 err_of (Err x) e is = ap Err is
 
--- where one kind is wanted, a tree that is no literal is not
+-- if one kind is wanted, a tree that is not a literal is not wanted
 pub no_literal_wanted : (wanted : TokenKind) (t : Shape) → (wanted ≡ token.Literal → ⊥) →
     IsNoLiteral t → IsWanted wanted t → ⊥
 no_literal_wanted wanted (tree.Group g) one none is = is

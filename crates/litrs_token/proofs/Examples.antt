@@ -81,7 +81,7 @@ texts :
     × ((g : Group) → text_of (tree.Group g) ≡ [])
 texts = (refl, refl, refl, λ g. refl)
 
--- What is known of a bool, or of the error in its place
+-- Facts about a bool, or about the error in its place
 
 bool_answers : (t : TokenTree) →
     (IsBoolAnswer t (Ok True) → IsTrue (is_bool_ident (shape_of t)) × (text_of (shape_of t) ≡ codes "true"))

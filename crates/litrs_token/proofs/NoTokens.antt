@@ -1,5 +1,5 @@
--- A text is a literal of one kind alone, decided by how it begins: where it is none of that kind, it
--- is none at all, a bool aside.
+-- The beginning of a text decides the only kind that it may have: a text that is not a literal of
+-- that kind is not a literal at all, or is a bool.
 use Rattle.std.proofs.Common.{◌≡◌, ℕ, Bool, true, false, List, refl, sym, ap, ◌∙◌, ◌⊎◌, inl, inr, subst}
 use Rattle.std.specs.Prelude.{◌≢◌, codes, if◌then◌else◌}
 use Rattle.std.specs.Char.{is_ascii_digit}

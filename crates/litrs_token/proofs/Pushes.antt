@@ -1,7 +1,7 @@
--- What pushes leave.
+-- The contents of a `Vec` after pushes.
 use Rattle.std.proofs.Common.{◌≡◌, List, [], ◌∷◌, ◌++◌, refl}
 
--- what three pushes leave
+-- the contents after three pushes
 pub pushed : {T : Type 0} (before one two three : List T) (x y z : T) → before ≡ [] →
     one ≡ before ++ x ∷ [] → two ≡ one ++ y ∷ [] → three ≡ two ++ z ∷ [] →
     three ≡ x ∷ y ∷ z ∷ []

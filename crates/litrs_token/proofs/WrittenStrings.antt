@@ -31,7 +31,7 @@ item_of c =
     else if c == 0 then escape_item (simple_escape 48)
     else plain_item c
 
--- It is an item, written as the escaped character, and stands for the character.
+-- It is an item, written as the escaped character, and its value is the character.
 record IsWritten (c : ℕ) : Type 0 where
   text : item_text (item_of c) ≡ escaped c
   value : item_value (item_of c) ≡ encode_utf8 c
@@ -181,7 +181,7 @@ pub all_escaped : (bytes more cs ds : List ℕ) → bytes ≡ opened cs → cs �
 all_escaped bytes more cs ds so_far same is =
     is ∙ (ap (λ (x : List ℕ). x ++ encode_utf8 34) (so_far ∙ ap opened same) ∙ closed ds)
 
--- What is written is a text, where the value is one.
+-- The written text is a text if the value is one.
 
 and_true : (a b : Bool) → a ≡ true → b ≡ true → (a && b) ≡ true
 and_true a b e f = rw (e, f) refl

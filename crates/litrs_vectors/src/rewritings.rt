@@ -20,7 +20,7 @@ const KEPT: Style = Style {
     float_groups: FloatGroups::Kept,
 };
 
-/// Returns a style in which the text of no char, byte or string is longer.
+/// Returns a style in which a char, byte or string is not longer than before.
 pub fn respelled() -> Style {
     Style {
         escapes: Escapes::Respelled,

@@ -69,7 +69,7 @@ values :
 unfolding computing
 values = (refl, refl, refl, refl)
 
--- What the grammar allows, and what not
+-- Items that the grammar does not allow
 
 items_not_allowed :
     (is_char_item char_kind (plain_char 39) ≡ false)

@@ -1,4 +1,4 @@
--- What an open refusal says of the text with its closing text, and texts that close nothing.
+-- The text of an open refusal with its closing text, and texts that do not close anything.
 use Rattle.std.specs.Prelude.{◌≡◌, ℕ, List, [], ◌∷◌, ◌++◌, IsTrue, codes, refl}
 use Rattle.std.proofs.Common.{sym, ap, ◌∙◌}
 use Rattle.litrs_base.specs.declared.err.ParseError.{ParseError}

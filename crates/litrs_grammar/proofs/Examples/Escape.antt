@@ -92,7 +92,7 @@ bytes :
 unfolding computing
 bytes = (refl, refl, refl, refl)
 
--- What the grammar allows, and what not
+-- Texts that the grammar allows, and texts that it does not
 
 not_escapes :
     (is_escape string_switches (simple_escape 97) ≡ false)

@@ -60,7 +60,7 @@ number_parts :
 unfolding computing
 number_parts = (refl, refl, refl)
 
--- Where a text is cut, a float or not
+-- Cuts of texts, floats or not
 
 cuts :
     (float_cut (codes "147.3_33__E3f64") ≡ parts "147" (Some (codes "3_33__")) "E3" "f64")
@@ -72,7 +72,7 @@ cuts :
 unfolding computing
 cuts = (refl, refl, refl, refl, refl, refl)
 
--- What the grammar allows, and what not
+-- Texts that the grammar allows, and texts that it does not
 
 decimal_literals :
     (is_decimal_literal (codes "1_") ≡ true)

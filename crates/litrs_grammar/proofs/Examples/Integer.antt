@@ -118,7 +118,7 @@ values :
 unfolding computing
 values = (refl, refl, refl, refl, refl)
 
--- Where a text is cut, an integer or not
+-- Cuts of texts, integers or not
 
 cuts :
     (integer_cut (codes "0b12") ≡ parts base.Binary "1" "2")
@@ -128,7 +128,7 @@ cuts :
 unfolding computing
 cuts = (refl, refl, refl, refl)
 
--- What the grammar allows, and what not
+-- Texts that the grammar allows, and texts that it does not
 
 digits :
     (is_digit base.Binary 47 ≡ false)

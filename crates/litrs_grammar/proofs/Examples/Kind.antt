@@ -130,7 +130,7 @@ spans :
 unfolding computing
 spans = (refl, refl, refl, refl, refl)
 
--- What is printed
+-- Printed errors
 
 printed :
     (refusal_text (spanning 1 11 kind.InvalidUnicodeEscapeChar) ≡ codes "value specified in `\\u{...}` escape is not a valid char (at " ++ decimal 1 ++ codes ".." ++ decimal 11 ++ codes ")")

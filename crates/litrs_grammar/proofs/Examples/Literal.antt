@@ -126,7 +126,7 @@ any-float = (refl, refl, refl, refl, refl, refl)
 any-integer :
     Refused literal_parse "0b1e3" (at_byte 3 kind.IntegerSuffixStartingWithE)
     × Refused literal_parse "0xg" (spanning 2 2 kind.NoDigits)
-    -- the digits before the period are no decimal ones
+    -- the digits before the period are not decimal
     × Refused literal_parse "0x44.5" (spanning 4 6 kind.UnexpectedChar)
 unfolding computing
 any-integer = (refl, refl, refl)
@@ -347,7 +347,7 @@ may_allocate-false :
     × (may_allocate (codes "b'\\n'") ≡ false)
     × (may_allocate (codes "br\"\\n\"") ≡ false)
     × (may_allocate (codes "b\"ab\"") ≡ false)
-    -- LF is no backslash
+    -- LF is not a backslash
     × (may_allocate (codes "\"a\n\"") ≡ false)
     × (may_allocate (codes "b\"\n/\"") ≡ false)
     -- a backslash in a raw body means nothing

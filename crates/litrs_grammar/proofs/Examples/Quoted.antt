@@ -64,7 +64,7 @@ continuations :
     Is string_kind "\"foo\\\n\t\n \n\tbar\"" (plains "foo" ++ continuation (codes "\t\n \n\t") ∷ plains "bar") "" (codes "foobar")
     × Is string_kind "\"foo\\\n\u{85}bar\"" (plains "foo" ++ continuation [] ∷ plain_item 0x85 ∷ plains "bar") "" (encode_utf8_all (codes "foo\u{85}bar"))
     × Is string_kind "\"foo\\\n  bar\"" (plains "foo" ++ continuation (codes "  ") ∷ plains "bar") "" (codes "foobar")
-    -- no-break space, vertical tab and form feed are no blanks
+    -- no-break space, vertical tab and form feed are not blanks
     × Is string_kind "\"a\\\n\u{a0}\"" (plain_item 97 ∷ continuation [] ∷ plains "\u{a0}") "" (encode_utf8_all (codes "a\u{a0}"))
     × Is string_kind "\"a\\\n\u{b}\"" (plain_item 97 ∷ continuation [] ∷ plains "\u{b}") "" (encode_utf8_all (codes "a\u{b}"))
     × Is string_kind "\"a\\\n\u{c}\"" (plain_item 97 ∷ continuation [] ∷ plains "\u{c}") "" (encode_utf8_all (codes "a\u{c}"))
@@ -80,7 +80,7 @@ continuations = (
   (quoted refl refl refl, refl),
 )
 
--- What the grammar allows, and what not
+-- Texts that the grammar allows, and texts that it does not
 
 blanks :
     (is_blank 32 ≡ true)
@@ -232,7 +232,7 @@ rows-unknown_escape = refused_after (plains "a") (codes "\\\r\"") (spanning 0 2 
 
 rows-carriage_return :
     Refused string_kind "\"a\r\"" (spanning 2 3 kind.CarriageReturn)
-    -- CR is no blank
+    -- CR is not a blank
     × Refused string_kind "\"a\\\n\r\"" (at_byte 4 kind.CarriageReturn)
 unfolding computing
 rows-carriage_return = (

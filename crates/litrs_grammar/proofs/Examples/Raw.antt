@@ -54,7 +54,7 @@ values :
 unfolding computing
 values = (refl, refl, refl)
 
--- What the grammar allows, and what not
+-- Texts that the grammar allows, and texts that it does not
 
 characters :
     (is_raw_char true true 13 ≡ false)

@@ -1,4 +1,5 @@
--- What a refusal says of its text and of longer ones, read by name: each line fails if the definition says less.
+-- The fields of a refusal, on its text and longer ones, read by name: each line fails if the
+-- definition says less.
 use Rattle.std.specs.Prelude.{◌≡◌, ◌↔◌, ℕ, List, [], ◌∷◌, ◌++◌, IfSome, IsTrue}
 use Rattle.litrs_base.specs.declared.err.ParseError.{ParseError}
 use Rattle.litrs_base.specs.CharEnd.{PointsAtCharacters}
@@ -9,7 +10,7 @@ use Rattle.litrs_grammar.specs.Literal.{Derivation, Parse, IsLiteralOf, Begins}
 use Rattle.litrs_grammar.specs.LiteralRefusals.{IsRefusal}
 use Rattle.litrs_grammar.specs.Refused.{IsRefused}
 
--- the text is no literal, and has one error
+-- the text is not a literal, and has one error
 refused_text :
     (parse : Parse) (t : List ℕ) (e : ParseError) → IsRefused parse t e →
     ((d : Derivation) → ¬ IsLiteralOf parse t d) × IsRefusal parse t (refusal_of e)

@@ -29,7 +29,7 @@ encodes-bool_text true = encodes-IsAscii (bool_text true) (ascii_by_test (bool_t
 pub bool_text_from_chars : (b : Bool) (s : List ℕ) → IsUtf8 s → bool_text b ≡ chars s → s ≡ bool_text b
 bool_text_from_chars b s u e = sym (encodes-chars s u) ∙ (ap encode_utf8_all (sym e) ∙ encodes-bool_text b)
 
--- a text that is neither of the two is no bool
+-- a text that is neither of the two is not a bool
 pub no_bool : (s : List ℕ) → IsUtf8 s → (s ≡ bool_text false → ⊥) → (s ≡ bool_text true → ⊥) → (b : Bool) → bool_text b ≡ chars s → ⊥
 no_bool s u not_false not_true false e = not_false (bool_text_from_chars false s u e)
 no_bool s u not_false not_true true e = not_true (bool_text_from_chars true s u e)

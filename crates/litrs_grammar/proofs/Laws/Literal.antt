@@ -61,7 +61,7 @@ pub is_bool-digit : (t : List ℕ) → first_passes is_ascii_digit t ≡ true �
 is_bool-digit t digit = false_from_ne_true (is_bool t) (λ e. let b = some_bool t e in
     true≢false (sym digit ∙ (ap (first_passes is_ascii_digit) (sym b.1) ∙ no_digit_in_bool b.0)))
 
--- a text that is no bool
+-- a text that is not a bool
 pub is_bool-none : (t : List ℕ) → ((b : Bool) → bool_text b ≡ t → ⊥) → is_bool t ≡ false
 is_bool-none t none = false_from_ne_true (is_bool t) (λ e. let b = some_bool t e in none b.0 b.1)
 
@@ -120,7 +120,7 @@ dispatch_literal t (a_string d) r = dispatch_string string_kind t d r
 dispatch_literal t (a_byte_string d) r = dispatch_string byte_string_kind t d r
 dispatch_literal t (a_c_string d) r = dispatch_string c_string_kind t d r
 
--- Where the dispatch names no kind, the text is empty or no kind begins so.
+-- If the dispatch does not name a kind, the text is empty or does not begin like any kind.
 
 else_row : (P : Refusal → Type 0) (b : Bool) (kind : LiteralKind) (o : Dispatch) (e : Refusal) →
     (o ≡ refused_as e → P e) → (if b then parsed_as kind else o) ≡ refused_as e → P e

@@ -1,4 +1,4 @@
--- What follows the leading run of digits tells floats and integers apart.
+-- The text after the leading run of digits tells floats from integers.
 use Rattle.std.proofs.Common.{◌≡◌, ℕ, true, false, List, [], ◌∷◌, ◌++◌, drop, Option, Some, None, refl, sym, ap, ◌∙◌}
 use Rattle.std.specs.List.{list_all, prefix_len}
 use Rattle.std.proofs.lemmas.Bool.{true≢false, false≢true, and_parts, or_from, or_right}

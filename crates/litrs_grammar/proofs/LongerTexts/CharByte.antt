@@ -31,7 +31,7 @@ use Rattle.litrs_grammar.proofs.LongerTexts.Escape.{escape_final}
 use Rattle.litrs_grammar.proofs.QuotedItems.{escape_head}
 use Rattle.litrs_grammar.proofs.LongerTexts.Quoted.{escape_is_text}
 
--- What a longer text says.
+-- Texts with a longer text that is a char or a byte.
 
 escape_begun : (kind : CharKind) (item : CharItem) (rest more : List ℕ) → is_char_item kind item ≡ true → char_item_text item ≡ rest ++ more → (rest ≡ []) ⊎ CharRestGoesOn kind rest
 escape_begun kind (plain_char c) [] more is same = inl refl
@@ -39,7 +39,7 @@ escape_begun kind (plain_char c) (d ∷ []) more is same = let at : d ≡ c = cc
 escape_begun kind (plain_char c) (d ∷ e ∷ rest) more is same = cc
 escape_begun kind (escaped_char e) rest more is same = inr (inl (e, more, sym same, is))
 
--- a text that is no char, and that some longer text makes one, goes on
+-- a text that is not a char, but begins one, is incomplete by its rule
 pub char_longer : (kind : CharKind) (t more : List ℕ) (d : CharParts) → HasNoDerivation (IsCharLiteral kind t) → IsCharLiteral kind (t ++ more) d → CharGoesOn kind t
 char_longer kind t more d none lit = elim (front_of t (char_front kind) more inner (sym lit.spells)) [
   | inr (c, z, s) ↦ inl (ap (begins_with t) s ∙ begins_with-append t (c ∷ z))
@@ -73,7 +73,7 @@ char_longer kind t more d none lit = elim (front_of t (char_front kind) more inn
           closed z y is (s ∙ ap (λ n. text ++ n ∷ y) (sym quote)) longer (is_suffix y) refl)
     ]
 
--- What completes it.
+-- Texts that complete it.
 
 front_scalar : (kind : CharKind) → list_all is_scalar (char_front kind) ≡ true
 front_scalar char_kind = refl
@@ -128,11 +128,11 @@ char_completed kind t (inr (rest, spells, goes_on)) = rest_completed kind rest t
 no_char : (kind : CharKind) (t : List ℕ) (r : Refusal) → char_kind_refusal kind t ≡ Some r → HasNoDerivation (IsCharLiteral kind t)
 no_char kind t r h d lit = let none : Some r ≡ None = sym h ∙ (chars_are_decided kind t).1 (d, lit) in cc
 
--- a refused text begins a char or a byte if and only if it goes on
+-- a refused text begins a char or a byte if and only if it is incomplete by its rule
 pub char_begins : (kind : CharKind) (t : List ℕ) (r : Refusal) → char_kind_refusal kind t ≡ Some r → BeginsBy (IsCharLiteral kind) t ↔ CharGoesOn kind t
 char_begins kind t r h = (λ begins. char_longer kind t begins.0 begins.1 (no_char kind t r h) begins.3, char_completed kind t)
 
--- What the table gives it.
+-- Its rows in the table.
 
 -- the kind is final
 abbrev final_row : Option Refusal → Bool

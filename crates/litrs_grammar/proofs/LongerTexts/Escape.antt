@@ -29,7 +29,7 @@ use Rattle.litrs_grammar.specs.GoesOn.Escape.{BeginsEscape, inner_goes_on, hex_g
 
 -- A final refusal of an escape stays.
 
--- a refusal that is not final is no final one
+-- a refusal that is not final is not equal to a final one
 pub never : {A : Type 0} (k e : Refusal) → is_final k.kind ≡ false → is_final e.kind ≡ true → Some k ≡ Some e → A
 never k e n f same = let at_byte : k ≡ e = cc in absurd (both_ways _ (subst (λ r. is_final r.kind ≡ false) at_byte n) f)
 
@@ -365,7 +365,7 @@ completed w (c ∷ t) h = elim (or_cases _ ((c == 117) && (w.unicode && braces_g
       subst (λ n. BeginsEscape w (92 ∷ n ∷ t)) (sym (eqb-true c 117 p.0)) (braces_completed w t q.0 q.1))
 ]
 
--- a refused escape is completed by some text exactly where its front goes on
+-- a refused escape is completed by some text if and only if its front is incomplete
 pub refused_escape_begins : (w : Switches) (t : List ℕ) (e : Refusal) → escape_refusal w (92 ∷ t) ≡ Some e → BeginsEscape w (92 ∷ t) ↔ (escape_goes_on w t ≡ true)
 refused_escape_begins w t e told = (goes_on_from w t e told, completed w t)
 

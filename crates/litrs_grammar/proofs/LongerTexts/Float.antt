@@ -49,7 +49,7 @@ same_form None p c s more = refl
 same_form (Some []) p c s more = refl
 same_form (Some (d ∷ ds)) p c s more = refl
 
--- parts with a suffix that are no float are none under every appended text
+-- parts with a suffix that are not a float are not one with any text appended
 no_longer_float : (d : FloatParts) (c : ℕ) (s more : List ℕ) → ¬ IsFloat (with_suffix d (c ∷ s)) → ¬ IsFloat (with_suffix d (c ∷ (s ++ more)))
 no_longer_float d c s more none float = by (is_suffix (c ∷ s)) refl
   where
@@ -155,14 +155,15 @@ parts_go_on d e more cut none float same =
 cut_is : (t : List ℕ) (c : CutOf t) → c.parts ≡ float_cut t
 cut_is t c = sym (cut_of_text c.parts c.cut) ∙ ap float_cut c.spells
 
--- the parts of a text that is no float, and with more after it is one
+-- the parts of a text that is not a float, but is one with more text after it
 pub float_longer : (t more : List ℕ) (d : FloatParts) → HasNoDerivation (IsFloatOf t) → IsFloatOf (t ++ more) d → FloatGoesOn (float_cut t)
 float_longer t more d none float =
     let c = cut_of t in
     subst FloatGoesOn (cut_is t c)
     (parts_go_on c.parts d more c.cut (λ grammar. none c.parts (record { spells = c.spells; grammar = grammar })) float.grammar (ap (λ s. s ++ more) c.spells ∙ sym float.spells))
 
--- What completes such parts: a period where there is neither fraction nor exponent, and a digit after an exponent.
+-- Texts that complete such parts: a period if there is neither fraction nor exponent, and a digit
+-- after an exponent.
 
 one_more : (c : ℕ) (cs : List ℕ) → is_exponent_front (c ∷ cs) ≡ true → is_exponent (c ∷ (cs ++ 49 ∷ [])) ≡ true
 unfolding is_exponent
@@ -245,7 +246,7 @@ complete_parts d cut goes_on = by (or_cases _ _ goes_on.start)
     by (inl empty) = subst Completed (sym (empty-true (float_text d) empty)) (complete_none)
     by (inr digit) = subst Completed spells (complete d.integer d.fraction d.exponent (and_from _ _ digit cut.integer) cut.fraction cut.exponent goes_on.fraction)
 
--- a refused text begins a float if and only if its parts go on
+-- a refused text begins a float if and only if its parts are incomplete
 pub float_begins : (t : List ℕ) (r : Refusal) → float_refusal t ≡ Some r → BeginsBy IsFloatOf t ↔ FloatGoesOn (float_cut t)
 float_begins t r h = (λ begins. float_longer t begins.0 begins.1 (refused t r h) begins.3, completed)
   where
@@ -255,7 +256,7 @@ float_begins t r h = (λ begins. float_longer t begins.0 begins.1 (refused t r h
         let full = subst Completed c.spells (complete_parts c.parts c.cut (subst FloatGoesOn (sym (cut_is t c)) goes_on)) in
         (full.more, full.parts, full.is_text, full.float)
 
--- What the table gives such parts.
+-- The rows of such parts in the table.
 
 -- the kind is final
 abbrev final_row : Option Refusal → Bool

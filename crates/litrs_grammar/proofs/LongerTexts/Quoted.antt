@@ -250,7 +250,7 @@ quoted_open front w t e f h =
     let open_cause : is_open h.cause.kind ≡ true = subst (λ r. is_open r.kind ≡ true) (sym h.placed) f in
     closes front w t h.items h.rest h.spells h.taken (open_rest w h.rest h.cause open_cause h.decided)
 
--- Which go on
+-- Rests that are incomplete
 
 -- an escape is a text
 simple_scalar : (c : ℕ) → is_simple c ≡ true → is_scalar c ≡ true
@@ -391,7 +391,7 @@ rest_begins front w t items rest spelled taken (inr (inr lone)) = (
   },
 )
 
--- a refused quoted text begins a literal exactly where its rest goes on
+-- a refused quoted text begins a literal if and only if its rest is incomplete
 pub quoted_begins : (front : List ℕ) (w : Switches) (t : List ℕ) (e : Refusal) → IsQuotedRefusal front w t e → BeginsBy (IsQuoted front w) t ↔ QuotedGoesOn front w t
 quoted_begins front w t e h = (
   λ begins. record { items = h.items; rest = h.rest; spells = h.spells; taken = h.taken; goes_on = begins_rest front w t e h begins },

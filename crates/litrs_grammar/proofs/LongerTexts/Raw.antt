@@ -75,7 +75,7 @@ raw_scan unicode allow_nul n t = by (occurs (raw_closing n) run.front) refl
           };
         })
 
--- What refuses each of the three.
+-- The rows that refuse each of the three.
 
 other_than_hash : (c : ℕ) → is_hash c ≡ false → (35 == c) ≡ false
 other_than_hash c h = grind (arith, nat_tests)
@@ -233,7 +233,7 @@ raw_finality unicode allow_nul start t r h final more d = refused unicode allow_
 
 -- Which begin a raw literal.
 
--- what goes on, by the cut at the hashes
+-- incomplete texts, by the cut at the hashes
 abbrev pub CutGoesOn : (unicode allow_nul : Bool) (n : ℕ) → List ℕ → Type 0
 CutGoesOn unicode allow_nul n rest = (n ≤ 255) × RawRestGoesOn unicode allow_nul n rest
 
@@ -308,7 +308,7 @@ raw_longer unicode allow_nul start t more r d h raw = by cut.rest cut.spells cut
         subst (RawGoesOn unicode allow_nul) spells (from_cut unicode allow_nul cut.count (c ∷ rest) stops
         (ltb-false 255 cut.count rows.0, (eqb-true c 34 rows.1, body_longer unicode allow_nul cut.count (start + (cut.count + 1)) rest more r rows.2 rows.3)))
 
--- What completes them.
+-- Texts that complete them.
 
 hash_scalar : (c : ℕ) → is_hash c ≡ true → is_scalar c ≡ true
 hash_scalar c h = subst (λ d. is_scalar d ≡ true) (sym (eqb-true c 35 h)) refl
@@ -351,7 +351,7 @@ completed unicode allow_nul n (c ∷ rest) t spells (few, (quote, inr x)) = (
       ∙ ap (λ l. l ++ 120 ∷ []) (ap (λ q. hashes n ++ q ∷ rest) (sym quote) ∙ spells)),
 )
 
--- what follows a front, and is refused, begins a raw literal if and only if it goes on
+-- a refused text after a front begins a raw literal if and only if it is incomplete
 pub raw_begins : (unicode allow_nul : Bool) (start : ℕ) (t : List ℕ) (r : Refusal) → raw_refusal unicode allow_nul start t ≡ Some r →
     BeginsBy (IsRawOf unicode allow_nul) t ↔ RawGoesOn unicode allow_nul t
 raw_begins unicode allow_nul start t r h = (

@@ -1,4 +1,4 @@
--- How longer texts start as strings.
+-- Longer texts that start as strings.
 use Rattle.std.proofs.Common.{◌≡◌, ℕ, Bool, true, false, List, [], ◌∷◌, ◌++◌, length, drop, refl, sym, ap, ◌∙◌, subst, arith, ◌⊎◌, inl, inr, append_assoc}
 use Rattle.std.specs.Prelude.{◌↔◌, if◌then◌else◌}
 use Rattle.std.specs.List.{list_all}
@@ -73,7 +73,7 @@ raw_string_begins kind t is = (
 
 -- Texts that begin with neither front
 
--- one of the fronts goes on after the text
+-- one of the fronts is longer than the text, and begins with it
 abbrev pub StartsFront : StringKind → List ℕ → Type 0
 StartsFront kind t = ((c : ℕ) × (z : List ℕ) × (quoted_front kind ≡ t ++ c ∷ z)) ⊎ ((c : ℕ) × (z : List ℕ) × (raw_front kind ≡ t ++ c ∷ z))
 

@@ -25,7 +25,7 @@ is_suffix-cons c t = refl
 pub underscore_x : is_suffix (95 ∷ 120 ∷ []) ≡ true
 underscore_x = is_suffix-cons 95 (120 ∷ []) ∙ and_from _ _ (and_from _ _ (is_xid_continue-ascii 120 (omega arith)) refl) refl
 
--- one of two fronts of a text goes on with the other
+-- one of two fronts of a text begins with the other
 pub front_of : (a b x y : List ℕ) → a ++ x ≡ b ++ y → ((z : List ℕ) × (a ≡ b ++ z)) ⊎ ((c : ℕ) × (z : List ℕ) × (b ≡ a ++ c ∷ z))
 front_of a [] x y same = inl (a, refl)
 front_of [] (d ∷ b) x y same = inr (d, b, refl)
@@ -44,7 +44,7 @@ symbol_starts_nothing c h = go (starts_identifier c) refl
         let letter = starts_ascii c low e in
         absurd (both_ways _ (not-true _ (and_parts _ _ h).1) letter)
 
--- a text is no suffix that begins otherwise
+-- a text that begins otherwise is not a suffix
 pub no_suffix : (c : ℕ) (t : List ℕ) → starts_identifier c ≡ false → is_suffix (c ∷ t) ≡ false
 unfolding is_suffix
 no_suffix c t h = rw h refl

@@ -33,7 +33,7 @@ marks_byte before after t place spells starts some =
     let more = length-le-byte_len after in
     record { front = before; rest = after; cut = spells; start = sym starts; in_order = omega arith; within = omega (arith, byte_len-append before after) }
 
--- the same span where the text goes on, and where it begins earlier
+-- the same span in a longer text, and in one that begins earlier
 pub marks_on : (t more : List ℕ) (start end : ℕ) → Marks t start end → Marks (t ++ more) start end
 marks_on t more start end m =
     let within : end ≤ byte_len t = m.within in

@@ -64,7 +64,7 @@ unfolding integer_refusal
 integer_refusal_within t e refusal =
     number_within t (is_empty t) (first_passes is_ascii_digit t) (integer_cut_refusal (integer_cut t)) e refl (cut_within t e) refusal
 
--- What integers end with
+-- The last characters of integers
 
 not_line_feed : (base : IntegerBase) (c : ℕ) → is_digit_or_underscore base c ≡ true → is_line_feed c ≡ false
 not_line_feed Binary c h = grind (arith, nat_tests)

@@ -19,7 +19,7 @@ use Rattle.litrs_grammar.proofs.QuotedItems.{last_of}
 pub first_byte : (c : ℕ) (t : List ℕ) → Marks (c ∷ t) 0 1
 first_byte c t = let size = length-le-byte_len (c ∷ t) in marks_start (c ∷ t) 1 (omega arith)
 
--- what is no suffix is not empty
+-- a text that is not a suffix is not empty
 pub some_no_suffix : (t : List ℕ) → is_suffix t ≡ false → 0 < length t
 unfolding is_suffix
 some_no_suffix [] h = cc

@@ -1,4 +1,4 @@
--- What follows the first character of the rest is an end of the text.
+-- The text after the first character of the rest is an end of the text.
 use Rattle.std.proofs.Common.{◌≡◌, ◌<◌, ℕ, List, [], length, drop, ap, sym, subst, ◌∙◌, arith}
 use Rattle.std.specs.Prelude.{encode_utf8_all}
 use Rattle.std.specs.Str.{chars, IsUtf8}

@@ -1,4 +1,4 @@
--- What is parsed is the literal at the front, valid or malformed.
+-- The text that is parsed is the literal at the front, valid or malformed.
 use Rattle.std.proofs.Common.{ℕ, List, ◌++◌, take, inl, inr, ap, ◌∙◌}
 use Rattle.std.proofs.lemmas.List.{take-append-drop}
 use Rattle.litrs.specs.LiteralDerivation.{derivation}

@@ -1,4 +1,4 @@
--- The bytes that stand first are the characters that do.
+-- The first byte is the first character if it is ASCII.
 use Rattle.std.proofs.Common.{◌≡◌, true, not, ◌&&◌, sym, ap, ◌∙◌}
 use Rattle.std.specs.Str.{chars}
 use Rattle.litrs_base.specs.Base.{is_digit_or_underscore}

@@ -1,4 +1,4 @@
--- ASCII is compared, and of other characters none is the space.
+-- ASCII is compared; another character is not the space.
 use Rattle.std.proofs.Common.{◌≡◌, false, eqb, ◌≤◌, sym, ◌∙◌, arith}
 use Rattle.std.proofs.lemmas.Bool.{ltb-true, ltb-false, ne_eqb}
 use Rattle.std.proofs.lemmas.Grind.{common_steps}

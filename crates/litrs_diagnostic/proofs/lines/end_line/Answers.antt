@@ -1,4 +1,4 @@
--- The range ends with its last line, after which the text goes on.
+-- The range ends with its last line, after which the text continues.
 use Rattle.std.proofs.Common.{◌∙◌, sym, ap}
 use Rattle.std.specs.Str.{chars}
 use Rattle.std.proofs.lemmas.Str.{chars-nil}

@@ -1,4 +1,4 @@
--- What is before the first LF, without a CR.
+-- The first line is the text before the first LF, without a CR.
 
 use Rattle.litrs_diagnostic.proofs.ByteLines.{first_line_found, first_line_missing}
 use Rattle.litrs_diagnostic.proofs.lines.first_line.Goals as goal

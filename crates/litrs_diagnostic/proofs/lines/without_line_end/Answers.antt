@@ -1,4 +1,4 @@
--- What is before the LF at the end, without a CR.
+-- The result is the text before the LF at the end, without a CR.
 use Rattle.std.proofs.Common.{◌≡◌, ◌++◌, [], ◌∷◌, Some, None, sym, lit<}
 use Rattle.std.proofs.lemmas.Str.Pattern.{strip_suffix_char}
 use Rattle.litrs_diagnostic.proofs.ByteLines.{line_end_stripped}

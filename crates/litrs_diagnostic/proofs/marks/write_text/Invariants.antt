@@ -1,4 +1,4 @@
--- What is shown of the characters so far.
+-- The output so far shows the characters so far.
 use Rattle.std.specs.Fmt.{HasWritten, IsPlainFormatter}
 use Rattle.std.specs.Str.{encode_utf8_all}
 use Rattle.litrs_diagnostic.specs.Shown.{shown}

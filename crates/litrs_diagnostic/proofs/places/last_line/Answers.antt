@@ -1,4 +1,4 @@
--- What follows the last LF has none.
+-- The text after the last LF does not contain LF.
 use Rattle.std.proofs.Common.{[], refl}
 use Rattle.litrs_diagnostic.proofs.ByteLines.{last_line_found, last_line_missing, last_line_ends}
 use Rattle.litrs_diagnostic.proofs.places.last_line.Goals as goal

@@ -1,4 +1,4 @@
--- What is marked first, and then what is before and after it.
+-- The marked part first, then the text before and after it.
 use Rattle.std.proofs.Common.{◌≡◌, ◌-◌, ℕ, List, refl, ap, ◌∙◌, sym, inl, arith}
 use Rattle.std.specs.Str.{chars}
 use Rattle.std.proofs.lemmas.Str.{chars-nil}

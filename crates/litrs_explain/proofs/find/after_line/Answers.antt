@@ -1,4 +1,4 @@
--- What follows a place is an end of the text.
+-- The text after a place is an end of the text.
 use Rattle.litrs_prefix.proofs.Ends.{after_bytes}
 use Rattle.litrs_explain.proofs.find.after_line.Goals as goal
 

@@ -1,4 +1,4 @@
--- What follows the slashes is an end of the text.
+-- The text after the slashes is an end of the text.
 use Rattle.std.proofs.Common.{◌-◌, length}
 use Rattle.litrs_prefix.proofs.Ends.{after_bytes}
 use Rattle.litrs_explain.proofs.find.without_slashes.Goals as goal

@@ -1,4 +1,4 @@
--- What follows the front, moved by it.
+-- The text after the front, moved by it.
 use Rattle.std.proofs.Common.{◌<◌, ◌^◌, ℕ, List, length, sym, ◌∙◌, subst, arith}
 use Rattle.litrs_base.specs.declared.quotes.CharKind.TheVariants.{Byte as byte_kind}
 use Rattle.litrs_lex.proofs.CharByteBytes.{IsFronted, fronted, char_read, char_refused, moves, front_boundary, start_within}

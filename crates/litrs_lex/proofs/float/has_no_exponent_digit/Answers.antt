@@ -1,4 +1,4 @@
--- The bytes are none where their length is 0.
+-- If the length is 0, there are no bytes.
 use Rattle.std.proofs.Common.{◌≡◌, false, not, ◌&&◌, ap, sym, ◌∙◌}
 use Rattle.std.specs.Char.{is_ascii_digit}
 use Rattle.std.specs.List.{list_any}

@@ -1,4 +1,5 @@
--- Where no byte of a step is another one, the hashes go on after it; else they end at the lowest.
+-- If all bytes of a step are hashes, the hashes continue after it; otherwise they end at the first
+-- other byte.
 use Rattle.std.proofs.Common.{◌≡◌, ℕ, ◌+◌, ◌-◌, not, map, List, take, drop, length, refl, sym, ap, ◌∙◌, arith}
 use Rattle.std.proofs.Math.Bool.{not-not}
 use Rattle.std.specs.List.{prefix_len}

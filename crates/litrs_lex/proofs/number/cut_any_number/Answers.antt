@@ -1,4 +1,4 @@
--- How the text begins decides as which kind of number it is refused.
+-- The beginning of the text decides the kind of number by which it is refused.
 use Rattle.std.proofs.Common.{true, false, sym, ap, ◌∙◌}
 use Rattle.std.proofs.lemmas.Result.{err_from_is_err_and}
 use Rattle.litrs_grammar.specs.LiteralRefusals.{begins_float}

@@ -1,4 +1,4 @@
--- Whether a byte is among others, as `memchr` and as `list_any` say it.
+-- `memchr` and `list_any` agree on whether a byte is among others.
 use Rattle.std.proofs.Common.{◌≡◌, ℕ, Bool, List, Option, Some, None, sym, ap, ◌∙◌, arith}
 use Rattle.std.specs.Prelude.{is_some, ◌==◌}
 use Rattle.std.specs.List.{list_any}

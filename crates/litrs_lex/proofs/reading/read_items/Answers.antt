@@ -1,4 +1,4 @@
--- A run and an item are read in each turn; the state goes on, or is handed on.
+-- A run and an item are read in each turn; the state is kept for the next turn, or returned.
 use Rattle.std.proofs.Common.{◌≡◌, ◌<◌, ◌^◌, ◌||◌, not, true, sym, subst, arith, length}
 use Rattle.litrs_base.specs.declared.quotes.Switches.{Switches}
 use Rattle.litrs_lex.specs.Reading.{IsReading, IsReadBody, IsItemsEnd, IsLongerThan, IsBodyRefused}

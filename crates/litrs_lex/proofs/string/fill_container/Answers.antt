@@ -1,4 +1,4 @@
--- What the room had, and then the rest, which fits.
+-- The contents of the room, and then the rest, which fits.
 use Rattle.std.proofs.Common.{◌∙◌, ap, length, arith, length-append}
 use Rattle.litrs_lex.proofs.QuotedValues.{held_is_utf8, whole_value, begun_value, within_is_not_longer, none_refused}
 use Rattle.litrs_lex.proofs.string.fill_container.Goals as goal

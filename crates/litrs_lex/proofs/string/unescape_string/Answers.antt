@@ -1,4 +1,4 @@
--- What is answered with these switches.
+-- The answer of `unescape_string_with` with these switches.
 use Rattle.litrs_lex.proofs.string.unescape_string.Goals as goal
 
 pub returns-clause-ok : goal.returns-clause-ok

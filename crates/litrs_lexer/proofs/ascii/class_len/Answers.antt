@@ -1,4 +1,4 @@
--- Where no byte of a step is marked, the run goes on after it; else it ends at the lowest mark.
+-- If no byte of a step is marked, the run continues after it; otherwise it ends at the lowest mark.
 use Rattle.std.proofs.Common.{◌≡◌, ℕ, ◌+◌, ◌-◌, not, map, List, take, drop, length, refl, sym, ap, ◌∙◌, arith}
 use Rattle.std.proofs.Math.Bool.{not-not}
 use Rattle.std.specs.List.{prefix_len}

@@ -1,4 +1,4 @@
--- What closes the comment is what closes those that are open in the rest.
+-- The end of the comment is the end of those that are open in the rest.
 use Rattle.std.proofs.Common.{◌≡◌, ◌+◌, ◌≤◌, length}
 use Rattle.std.specs.Str.{chars}
 use denote.Text.{Utf8}

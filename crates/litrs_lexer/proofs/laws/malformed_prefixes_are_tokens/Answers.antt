@@ -1,4 +1,4 @@
--- What is malformed opens, and the piece is not a literal.
+-- A literal begins at a malformed prefix, and the prefix is not a literal.
 use Rattle.std.proofs.Common.{ap}
 use Rattle.std.specs.Prelude.{not}
 use Rattle.std.proofs.lemmas.Bool.{and_from}

@@ -1,4 +1,4 @@
--- What follows two characters is an end of the text.
+-- The text after two characters is an end of the text.
 use Rattle.std.proofs.Common.{◌<◌, length, arith}
 use Rattle.litrs_prefix.proofs.Ends.{all, after_first, shorter}
 use Rattle.litrs_lexer.proofs.name.after_raw_mark.Goals as goal

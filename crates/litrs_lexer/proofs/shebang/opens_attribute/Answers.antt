@@ -1,4 +1,4 @@
--- What is skipped may be left out, and what is not decides.
+-- A token that is skipped may be left out; the first that is not skipped decides.
 use Rattle.std.proofs.Common.{sym, ap, subst, ◌∙◌}
 use Rattle.std.specs.Str.{chars}
 use Rattle.std.proofs.lemmas.Bool.{true≢false}

@@ -1,4 +1,4 @@
--- What follows the first line of an end of the text is an end of the text.
+-- The text after the first line of an end of the text is an end of the text.
 use Rattle.litrs_prefix.proofs.Ends.{end_of_end}
 use Rattle.litrs_lexer.proofs.shebang.strip_shebang.Goals as goal
 

@@ -1,4 +1,4 @@
--- The text that is held is no literal without its LF, which is the character that is popped.
+-- The text that is held is not a literal without its LF, which is the character that is popped.
 use Rattle.std.proofs.Common.{inl, inr, subst}
 use Rattle.std.specs.Prelude.{ℕ, List, string_bytes, string_len}
 use Rattle.std.specs.Str.{chars}

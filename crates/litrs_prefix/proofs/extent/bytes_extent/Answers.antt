@@ -1,4 +1,4 @@
--- What follows the first character is an end of the text.
+-- The text after the first character is an end of the text.
 use Rattle.std.proofs.Common.{refl}
 use Rattle.std.specs.Str.{chars}
 use Rattle.litrs_prefix.proofs.Ends.{after_first}

@@ -1,4 +1,4 @@
--- The whole text is no literal, so that some piece is not one.
+-- The whole text is not a literal, so some piece is not one.
 use Rattle.std.proofs.Common.{◌≡◌, ◌<◌, ◌≤◌, ℕ, List, [], length, subst, inl, inr, arith, ◌∙◌}
 use Rattle.std.specs.Str.{chars}
 use Rattle.std.proofs.Math.Nat.{eq-or-lt_of_le}

@@ -1,4 +1,4 @@
--- How the text begins decides.
+-- The beginning of the text decides.
 use Rattle.std.proofs.Common.{sym, ap, ◌∙◌}
 use Rattle.std.specs.Char.{is_ascii_digit}
 use Rattle.std.specs.Str.{chars}

@@ -1,4 +1,4 @@
--- What stands before the period decides.
+-- The text before the period decides.
 use Rattle.std.proofs.Common.{◌≡◌, [], ◌∷◌, sym, subst, ◌∙◌}
 use Rattle.std.specs.Str.{chars}
 use Rattle.std.proofs.lemmas.Bool.{false≢true}

@@ -1,4 +1,4 @@
--- What follows the first closing is the same of the rest.
+-- The text after the first closing of the rest is that of the text.
 use Rattle.std.proofs.Common.{◌≡◌, length}
 use denote.Text.{Utf8}
 use denote.Shadow.{shadow}

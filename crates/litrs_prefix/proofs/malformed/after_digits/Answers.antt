@@ -1,4 +1,4 @@
--- What follows the decimal digits.
+-- The text after the decimal digits.
 use Rattle.std.proofs.Common.{◌≡◌, ℕ, drop, sym, ap, subst, ◌∙◌}
 use Rattle.std.specs.List.{prefix_len}
 use Rattle.std.specs.Str.{chars, IsCharBoundary}

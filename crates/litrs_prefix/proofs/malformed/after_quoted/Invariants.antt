@@ -1,4 +1,4 @@
--- What follows the closing of the rest is what follows that of the text.
+-- The text after the closing of the rest is that after the closing of the text.
 use Rattle.std.proofs.Common.{◌≡◌, length}
 use denote.Text.{Utf8}
 use denote.Shadow.{shadow}

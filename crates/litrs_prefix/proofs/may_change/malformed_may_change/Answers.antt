@@ -1,4 +1,4 @@
--- What goes on, what reaches the end, and the line feed after a quote decide.
+-- A piece that is incomplete or reaches the end, or the line feed after a quote, decides.
 use Rattle.std.proofs.Common.{sym, ap, ◌∙◌}
 use Rattle.std.specs.Str.{chars}
 use Rattle.std.proofs.lemmas.Bool.{true≢false}

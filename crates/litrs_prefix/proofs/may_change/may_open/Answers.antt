@@ -1,4 +1,4 @@
--- A literal that goes on, or a front that is open, decides.
+-- A literal that is incomplete, or a front that is open, decides.
 use Rattle.std.proofs.Common.{sym, ◌∙◌}
 use Rattle.std.specs.Str.{chars}
 use Rattle.std.proofs.lemmas.Bool.{true≢false}

@@ -1,4 +1,4 @@
--- What begins at the front decides.
+-- The kind of text that begins at the front decides.
 use Rattle.std.proofs.Common.{◌≡◌, ◌≤◌, ℕ, List, [], ◌∷◌, drop, length, false, refl, sym, ap, subst, ◌∙◌, arith}
 use Rattle.std.specs.Str.{chars, IsUtf8}
 use Rattle.std.proofs.lemmas.Bool.{eqb-true, eq-eqb, true≢false}

@@ -1,4 +1,4 @@
--- What follows the run is an end of the text.
+-- The text after the run is an end of the text.
 use Rattle.std.proofs.Common.{List, ℕ, ◌++◌, sym, ap, ◌∙◌, append_assoc}
 use Rattle.std.specs.Prelude.{encode_utf8}
 use Rattle.litrs_prefix.proofs.name.after_name.Goals as goal

@@ -1,4 +1,4 @@
--- How the front begins decides the kind.
+-- The beginning of the front decides the kind.
 use Rattle.std.proofs.Common.{sym}
 use Rattle.std.specs.Str.{chars}
 use Rattle.litrs_prefix.proofs.Judged.{bool_before, char_before, byte_before, quoted_before, raw_before, empty_before, other_before}

@@ -1,4 +1,4 @@
--- What follows the digits decides.
+-- The text after the digits decides.
 use Rattle.std.proofs.Common.{sym, ◌∙◌}
 use Rattle.std.specs.Str.{chars}
 use Rattle.std.proofs.lemmas.Bool.{true≢false}

@@ -1,4 +1,4 @@
--- What follows the digits decides.
+-- The text after the digits decides.
 use Rattle.std.proofs.Common.{sym, ap, ◌∙◌}
 use Rattle.std.specs.Str.{chars}
 use Rattle.litrs_base.specs.Text.{first_passes}

@@ -1,4 +1,4 @@
--- Each character that is passed is no delimiter.
+-- A character that is passed is not a delimiter.
 use Rattle.std.proofs.Common.{◌≡◌, Bool, List, ℕ, false, ◌∷◌, sym, ap, ◌∙◌}
 use Rattle.std.specs.Prelude.{if◌then◌else◌}
 use Rattle.std.specs.Str.{chars}

@@ -1,4 +1,4 @@
--- Another front is that of no literal but a bool.
+-- Another front does not begin a literal other than a bool.
 use Rattle.litrs_token.proofs.NoTokens.{no_kind}
 use Rattle.litrs_token.proofs.kind.literal_kind.Goals as goal
 

@@ -1,4 +1,4 @@
--- The tree is no literal, or a literal, which may be of another kind.
+-- The tree is not a literal, or is one, perhaps of another kind.
 use Rattle.litrs_token.proofs.Conversions.{err_of, no_literal_wanted}
 use Rattle.litrs_token.proofs.from_token.AnyFromToken.from_tree.Goals as goal
 
