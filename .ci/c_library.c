@@ -2,7 +2,7 @@
  *
  * Standard input has a text a line, in hex. The line that is printed of a text has the fields of
  * litrs_answer in their order, what litrs_goes_on answers, and the status, length and bytes in hex
- * of litrs_value and of litrs_message; then the same of litrs_parse, litrs_value and litrs_message,
+ * of litrs_value and of litrs_message; then those of litrs_parse, litrs_value and litrs_message,
  * by their status alone, with every allocation refused; then how often memory was asked for by
  * litrs_parse, litrs_value, litrs_message and litrs_goes_on; the fields of litrs_prefix in their
  * order, its status with every allocation refused, and how often it asked for memory; of litrs_f64
@@ -201,7 +201,7 @@ static void print_f64(const uint8_t *text, size_t len) {
     printf(" %u %zu", (unsigned)refused, by_call);
 }
 
-/* The same of litrs_f32. */
+/* Like print_f64, for litrs_f32. */
 static void print_f32(const uint8_t *text, size_t len) {
     uint32_t bits, untouched, status, refused;
     size_t by_call;

@@ -73,7 +73,7 @@ def flat(value):
 
 
 def written(call, text):
-    """What a call writes: first how much, then all of it."""
+    """Returns what a call writes: first how much, then all of it."""
     sized = call(text, len(text), b"", 0)
     room = ctypes.create_string_buffer(sized.len + 1)
     again = call(text, len(text), room, sized.len)
@@ -82,7 +82,7 @@ def written(call, text):
 
 
 def answer_of(module, text):
-    """The same fields as the C program prints them, up to the message, those of the front, and the
+    """Returns the fields as the C program prints them: up to the message, of the front, and the
     tokens."""
     calls = module._calls
     fields = flat(calls["parse"](text, len(text)))
@@ -104,7 +104,7 @@ def tokens_of(module, text):
 
 @dataclasses.dataclass
 class Wanted:
-    """What is to be answered of a text: the fields, None where nothing is known of one, how often
+    """The wanted answers on a text: the fields, None if nothing is known of one, how often
     memory is to be asked for by each call but litrs_goes_on, the status and length of what
     is at its front, the fields of the object or exception of the module, and of a number the
     bits of the double and of the float, and how often memory is to be asked for each; and the
@@ -219,7 +219,7 @@ def wanted_of_refusal(text, kinds, name, spans, printed):
 
 
 def wanted_of_front(text, words):
-    """What a row on the front of a text wants: the last of its words decides."""
+    """Returns what a row on the front of a text wants: the last of its words decides."""
     if words[-1].isdigit():
         front = (LITERAL, int(words[-1]))
     else:
@@ -228,7 +228,7 @@ def wanted_of_front(text, words):
 
 
 def wanted_of_rows(kinds):
-    """What the rows of the table want of the calls."""
+    """Yields what the rows of the table want of the calls."""
     table = (TOP / "crates/litrs_vectors/stdin").read_bytes()
     for line in table.split(b"\n"):
         if not line or line.startswith(b"#"):
@@ -251,7 +251,7 @@ def wanted_of_rows(kinds):
 
 
 def wanted_of_tokens():
-    """What the rows of the table of tokens want."""
+    """Yields what the rows of the table of tokens want."""
     numbers = {name: number for number, name in TOKENS.items()}
     for _, row, _ in tokens.rows():
         text, printed = b"", ""
@@ -277,8 +277,8 @@ def wanted_of_prefixes(rows):
 
 
 def fields_of(line):
-    """The fields that the C program printed of a text: those of `answer_of`, the statuses with
-    every allocation refused and how often memory was asked for, the same of the front, what
+    """Returns the fields that the C program printed of a text: `answer_of`, the statuses with
+    every allocation refused and how often memory was asked for, those of the front, what
     litrs_f64 and litrs_f32 answer, and the tokens."""
     fields = [it if it.endswith(".") else int(it) for it in line.split()]
     *fields, walked = [it[:-1] if isinstance(it, str) else it for it in fields]
@@ -290,7 +290,7 @@ def status_without_memory(status, needs_memory):
 
 
 def faults_of_front(wanted, fields, refused, asked):
-    """What is wrong of the answer on the front of a text."""
+    """Yields the faults of the answer on the front of a text."""
     *answer, length = fields[31:]
     if any(it is not None and it != got for it, got in zip(wanted.front, (answer[0], length))):
         yield f"wanted {wanted.front} at the front, got {answer[0], length}"
@@ -306,7 +306,7 @@ def faults_of_front(wanted, fields, refused, asked):
 
 
 def faults_of_numbers(wanted, fields, by_parse, numbers):
-    """What is wrong of the double and the float."""
+    """Yields the faults of the double and the float."""
     status, kind = fields[:2]
     for name, at in (("litrs_f64", 0), ("litrs_f32", 4)):
         given, bits, refused, asked = numbers[at : at + 4]
@@ -321,7 +321,7 @@ def faults_of_numbers(wanted, fields, by_parse, numbers):
 
 
 def faults_of(wanted, from_c, from_python):
-    """What is wrong of the answers on a text."""
+    """Yields the faults of the answers on a text."""
     fields, refused, front, numbers, walked = fields_of(from_c)
     *from_python, walked_by_python = from_python
     if walked != walked_by_python or wanted.tokens not in (None, walked):
@@ -344,7 +344,7 @@ def faults_of(wanted, from_c, from_python):
 
 
 def outcome(call, *words):
-    """What the call of the module answers: its fields, or those of its exception."""
+    """Returns the answer of the call of the module: its fields, or those of its exception."""
     try:
         answer = call(*words)
     except ValueError as e:
@@ -361,7 +361,7 @@ def fields_of_error(error, in_bytes, wanted):
 
 
 def faults_of_module(module, wanted):
-    """What is wrong of what the module makes of a text, as bytes and as a str."""
+    """Yields the faults of the module on a text, as bytes and as a str."""
     texts = [wanted.text]
     try:
         texts.append(wanted.text.decode())
@@ -385,7 +385,7 @@ def faults_of_module(module, wanted):
 
 
 def faults_of_walk(module, data, text):
-    """What is wrong of the tokens of the module."""
+    """Yields the faults of the tokens of the module."""
     printed, end, start = tokens_of(module, data), 0, 0
     found = outcome(module.tokens, text)
     if isinstance(found, ValueError):
@@ -407,7 +407,7 @@ def faults_of_walk(module, data, text):
 
 
 def faults_of_piece(module, token, offset):
-    """What is wrong of the literal of a token, which begins at this byte of its source."""
+    """Yields the faults of the literal of a token, which begins at this byte of its source."""
     whole, literal = outcome(module.parse, token.text), outcome(token.literal)
     if token.kind == "Literal":
         same = isinstance(literal, module.Literal) and repr(literal) == repr(whole)
@@ -427,7 +427,7 @@ def faults_of_piece(module, token, offset):
 
 
 def faults_of_call(module, wanted, text, whole):
-    """What is wrong of what `parse` of the module answers of a text."""
+    """Yields the faults of the answer of `parse` of the module on a text."""
     if wanted.fields[0] == NOT_UTF8 and not isinstance(whole, UnicodeDecodeError):
         yield f"{whole!r}, which is not UTF-8"
     if wanted.python is None:
@@ -475,12 +475,12 @@ def run_build(folder, archive, *words, **more):
 
 
 def told(*words, **more):
-    """What a command prints."""
+    """Returns what a command prints."""
     return subprocess.run(words, check=True, capture_output=True, text=True, **more).stdout
 
 
 def flags(installed, *words):
-    """What pkg-config says of the library that is installed."""
+    """Returns what pkg-config says of the library that is installed."""
     return shlex.split(told("pkg-config", *words, "litrs", env=paths_of(installed)))
 
 
@@ -534,7 +534,7 @@ def faults_of_versions(installed, module):
 
 
 def faults_of_words(folder, archive):
-    """What is wrong of the script's help, and of wrong arguments, with which it writes nothing."""
+    """Yields the faults of the script's help, and of wrong arguments, with which it is silent."""
     room = folder / "words"
     room.mkdir()
     wrong = [[], [""], ["--nothing"], ["a", "b"], ["a", "--nothing"], ["--uninstall"]]
@@ -554,7 +554,7 @@ INSTALLED += "lib/liblitrs.so.1.0.1 lib/pkgconfig/litrs.pc share/litrs/litrs.py"
 
 
 def faults_of_removal(folder, archive):
-    """What is wrong of what is installed below DESTDIR, and of what stays once it is removed."""
+    """Yields the faults of the files below DESTDIR, once installed and once removed."""
     prefix, destination = str(folder / "usr"), str(folder / "package")
     top = pathlib.Path(destination + prefix)
     own = top / "include/own.h"
@@ -589,7 +589,7 @@ def run_shell(folder, lines, environment):
 
 
 def faults_of_move(folder, installed):
-    """What is wrong once the folder that is installed is moved to a name with a blank."""
+    """Yields the faults after the installed folder is moved to a name with a blank."""
     moved = folder / "moved here"
     installed.rename(moved)
     (folder / "moved.c").write_text(blocks_of_page("c")[0])
@@ -683,7 +683,7 @@ def faults_of_kinds(module, kinds):
 
 
 def faults_of_samples(folder, installed):
-    """What is wrong of the samples of the page of the crate, built and run by its lines. Each has
+    """Yields the faults of the samples of the crate's page, built and run by its lines. Each has
     to print the block of its place, those in C before those in Python."""
     in_c, in_python, printed = map(blocks_of_page, ("c", "python", "text"))
     dynamic, others, path = (it.replace("PREFIX", str(installed)) for it in blocks_of_page("sh"))

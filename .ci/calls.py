@@ -141,7 +141,7 @@ def listed_types(page):
 
 
 def listed_calls(page):
-    """The calls of a page, each with its signature; a line that is none is a call by its text."""
+    """Yields the calls of a page, each with its signature; any other line is a call by its text."""
     for part in re.split(r"^### ", section(page, "All calls"), flags=re.M)[1:]:
         head, _, table = part.partition("\n")
         for line in re.findall(r"^\| `.*", table, re.M):
@@ -151,7 +151,7 @@ def listed_calls(page):
 
 
 def is_answer(listed, public):
-    """Whether an answer is as listed."""
+    """Returns whether an answer is as listed."""
     return re.fullmatch(re.escape(listed).replace(r"\.\.", ".*"), public)
 
 
@@ -161,7 +161,7 @@ def shown(of):
 
 
 def faults_of(public, listed):
-    """What differs between what is public in a crate and what its page lists."""
+    """Yields the differences between what is public in a crate and what its page lists."""
     (types, calls), (page_types, page_calls) = public, listed
     names = [it[0] for it in page_types] + ["::".join(it[0]) for it in page_calls]
     wanted = [*types, *("::".join(it) for it in calls)]

@@ -270,7 +270,7 @@ class Tests:
         self.hold(places == [2, 1, given.index("\\q"), given.index("\\q") + 2], f"{it}")
 
     def try_held(self):
-        """What is held is let go with the line that ends it, before the next line is read."""
+        """The text that is held is dropped with its last line, before the next line is read."""
         words = [self.program, "--prefix", "--format", "json"]
         for given in (b'"a\nb"\n1', b'"a\\q\nb" 1\n', b"/*\n*/ 1\n", b"r#\"\n\"# 1\n"):
             child, terminal = pty.fork()
@@ -383,7 +383,7 @@ class Tests:
         self.hold(self.run("b.txt", "--format", "json", cwd=folder)[0][:1] == b"{", "option last")
 
     def try_hints(self, folder):
-        """Hints, which name an option, and that there are no others."""
+        """Hints, which name an option, and texts without hints."""
         (folder / "code.rs").write_bytes(b"fn main() {\n    1;\n}\n")
         for text in ("0xFF_u8", '"a/b"', "true"):
             out, said, status = self.run(text, cwd=folder)
@@ -522,7 +522,7 @@ class Tests:
             self.hold(status == 2, f"read {fails} of {piece} bytes fails: {status}")
 
     def on_terminal(self, *words, given, env):
-        """What a run writes to a terminal, whose keyboard gives this."""
+        """Returns what a run writes to a terminal, whose keyboard gives this."""
         child, terminal = pty.fork()
         if child == 0:
             try:
@@ -560,7 +560,7 @@ class Tests:
         self.hold(b"value 1\r\n" in out and b"value 23\r\n" in out and status == 0, f"{out}")
 
     def try_long_line(self, folder):
-        """A line of 1.6 MB, with a report on each of its words, of which none is held."""
+        """A line of 1.6 MB, with a report on each of its words; the reports are not held."""
         library, peak = folder / "peak.so", folder / "peak"
         words = ["cc", "-O1", "-shared", "-fPIC", "-o", library, TOP / ".ci" / "peak.c"]
         subprocess.run(words, check=True)

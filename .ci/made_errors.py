@@ -22,7 +22,7 @@ other call asks for more, no argument of a call that allocates has a number abov
 constant that is a number, or a repeated array, and no line has a number that is as good as
 unbounded, but below such a comment.
 
-Each comment is for the next line alone, and one above a line that needs none is refused.
+Each comment is for the next line alone, and is refused above a line that does not need it.
 """
 import collections
 import pathlib
@@ -43,21 +43,21 @@ LARGE = 255
 GROWS = (
     r"\b(push|push_\w+|extend_from_slice|insert\w*|append|feed|write_all|writeln!|write!|format!)$"
 )
-# What makes an argument a number that may be greater than what it will hold.
+# An argument with one of these may be a number that is greater than what it will hold.
 NUMBER = (
     r"(?<!Type::)\b[A-Z][A-Z0-9_]+\b|::MAX\b|\b0x[0-9a-fA-F_]+\b|(?<![\w.])\d[\d_]*|;\s*[a-z]\w*\s*\]|<<|\.pow\("
 )
 # Numbers that are as good as unbounded, and such a width in a format.
 UNBOUNDED = r"::MAX\b|(?<!\w)\d[\d_]{4,}|\d\s*<<|\.pow\("
 WIDTH = r"\{[^{}]*:[^{}]*(\d{3,}|\$)[^{}]*\}"
-# What an amount of memory may be below a comment that says what bounds it.
+# An amount of memory below a comment that says what bounds it.
 TERM = r"(?:usize::from\([a-z][\w.]*\)|[A-Za-z_][\w.]*(?:\(\))?|\d)"
 PART = rf"(?:\d \* )?{TERM}"
 AMOUNT = rf"\s*{PART}(?: \+ {PART})*\s*"
-# What a line below such a comment may not have, but for a conversion to a narrower type.
+# A line below such a comment may not have these, but for a conversion to a narrower type.
 UNMEASURED = r"\b(if|match|while)\b|::MAX\b|(?<!\w)\d[\d_]+|\b0x|<<|\.pow\("
 NARROWED = r"\b\w+::try_from\(\w+\)\.unwrap_or\(\w+::MAX\)"
-# Where such a number is no amount of memory: the turns of a loop, a comparison,
+# Lines on which such a number is not an amount of memory: the turns of a loop, a comparison,
 # and what a function of numbers answers: the bounds of integer types, a power of two.
 NO_AMOUNT = (
     r"\s*(for \w+ in 0\.\.u64::MAX|if \w+ [<>]=? 1 << \d+) \{$"
@@ -67,9 +67,9 @@ NO_AMOUNT = (
 
 # The head of a function that makes the failure of an error from one that it is given.
 FROM = r"\s*fn from\(\w+: Alloc(?:Error|Failed<\w+>)\) -> \w+(?: \{)?$"
-# What is skipped as a whole, up to the closing brace under its first column.
+# Items that are skipped as a whole, up to the closing brace under their first column.
 SKIPPED = rf"{FROM}|\s*(pub(\(\w+\))? )?(enum|struct) \w+[^;]*\{{$"
-# Where the names may occur: types, imports, clauses and patterns.
+# Places in which the names may occur: types, imports, clauses and patterns.
 ALLOWED = [
     r"//.*",
     r"^\s*(pub )?use (?![^;]*\b(AllocError|OutOfMemory|Memory|Error) as\b)[^;]*;",
@@ -95,7 +95,7 @@ def sources():
 
 
 def is_test_file(path):
-    """Whether the file is a module that is declared under `#[cfg(test)]`, or below such a one."""
+    """Returns whether the file is a module declared under `#[cfg(test)]`, or below such a one."""
     declared = f"#[cfg(test)]\nmod {path.stem};"
     above = path.parent.with_suffix(".rt")
     return any(declared in parent.read_text() for parent in path.parent.glob("*.rt")) or (
@@ -163,8 +163,8 @@ def without_texts(line):
 
 
 def is_large(argument):
-    """Whether an argument has a constant, a repeated array, or a number above `LARGE`, but for the
-    places of a slice."""
+    """Returns whether an argument has a constant, a repeated array, or a number above `LARGE`,
+    except in the places of a slice."""
     argument = re.sub(r"(?<=\w)\[[^\]]*\]", "", argument)
     for found in re.finditer(NUMBER, argument):
         digits = found[0].replace("_", "")
@@ -175,7 +175,7 @@ def is_large(argument):
 
 def large_arguments(lines, held):
     """The numbers of the lines on which a call that allocates has such an argument; a constant that
-    is `held` is none."""
+    is `held` does not count."""
     code = [re.sub(held, "", without_texts(line)) for _, line in lines]
     text, places = "\n".join(code), []
     for (number, _), line in zip(lines, code):
@@ -190,7 +190,7 @@ def large_arguments(lines, held):
 
 
 def is_measured(line):
-    """Whether a line below a comment that begins `// bounded by ` asks for what was measured."""
+    """Returns whether a line below a comment `// bounded by ` asks for what was measured."""
     code = re.sub(NARROWED, "", without_texts(line))
     code = re.sub(r"^\s*match (?=[^{}]*\{$)", "", code)
     for call in re.finditer(RESERVES, code):
@@ -203,7 +203,7 @@ def is_measured(line):
 
 
 def hands_on(head, line):
-    """Whether a line of the function with this head calls what has its name, with a parameter."""
+    """Returns whether a line of this function calls what has its name, with a parameter."""
     named = re.match(r"\s*(?:pub )?fn (\w+)\(([^)]*)\)", head)
     if not named:
         return False
@@ -221,7 +221,7 @@ class File:
         self.used, self.faults = set(), []
 
     def is_marked(self, number, mark):
-        """Whether the comment above this line begins with this mark, which then serves the line."""
+        """Returns whether the comment above this line begins with this mark, which then is used."""
         above = number - 1
         while above and self.all[above - 1].strip().startswith("//"):
             if self.all[above - 1].strip().startswith(mark):

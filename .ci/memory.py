@@ -17,7 +17,7 @@ import tempfile
 
 TOP = pathlib.Path(__file__).resolve().parent.parent
 PROGRAM = TOP / "crates/litrs_lines_cli/out/litrs_lines_cli"
-# What a run may hold beside: a piece of the reports, and what the C library adds to a block.
+# A run may also hold a piece of the reports, and what the C library adds to a block.
 ROOM = 1 << 16
 LINES = [1_000, 40_000, 81_000, 82_000, 83_000, 100_000]
 # The bytes of a line without its LF.
@@ -33,7 +33,7 @@ SHAPES = [
 
 
 def held(program, library, folder, text):
-    """What the program prints of the text, and how many bytes it holds at most."""
+    """Returns what the program prints of the text, and how many bytes it holds at most."""
     peak = folder / "peak"
     environment = os.environ | {"LD_PRELOAD": str(library), "PEAK": str(peak)}
     ran = subprocess.run([program], input=text, capture_output=True, env=environment, check=True)

@@ -28,7 +28,7 @@ that are drawn, and on values that end in every number of escapes up to 130, and
 hold.
 
 Fails where a copy does anything else, where a call that is not listed below was refused, where one
-that is listed never was, where `feed` allocates more than once for a line that is no literal, or at
+that is listed never was, where `feed` allocates more than once if a line is not a literal, or at
 all for a line that fits the memory of a collector that was cleared, where a call of litrs_build
 allocates more than once for a text and once for a value, where one of litrs_value does for a
 parse and for a value, where `parse_until` does for a value, and where `feed_prefix` does for a line,
@@ -63,7 +63,7 @@ ENDED = b"litrs_vectors: out of memory\n"
 REFUSED = re.compile("refused (.*) at line 1")
 # The most copies of a part in a text.
 LONGEST = 10_000
-# How many lengths of parts are drawn, below 5,000 with each allocation refused in turn, and below
+# Numbers of lengths of parts that are drawn: below 5,000 with each allocation refused, and below
 # `LONGEST` with nothing refused.
 DRAWN = 8
 DRAWN_UNREFUSED = 64
@@ -225,7 +225,7 @@ def refused_call(printed):
 
 
 class Build:
-    """What was seen of one build."""
+    """The calls and faults that were seen of one build."""
 
     def __init__(self, name, library, folder):
         self.program = CRATE / "out" / name
@@ -277,7 +277,7 @@ class Build:
         records.unlink()
 
     def is_right(self, how, printed, status):
-        """Whether a copy did what it should, in which one allocation was refused, or all were."""
+        """Returns whether a copy, with one or all allocations refused, did what it should."""
         if (printed, status) == (ENDED, 1):
             return True
         call = refused_call(printed)
@@ -292,7 +292,7 @@ class Build:
 
 
 def is_short(row):
-    """Whether no part of a row is repeated so often that a copy of the process takes long."""
+    """Returns whether no part of a row is repeated so often that copying the process takes long."""
     return all(int(count) <= LONGEST for count in re.findall(r"%\((\d+)\*", row))
 
 
@@ -303,7 +303,7 @@ def byte_len(field):
 
 
 def doublings(room, length):
-    """How often a buffer of the size `room` is doubled until it has `length` bytes."""
+    """Returns how often a buffer of the size `room` is doubled until it has `length` bytes."""
     count = 0
     while room << count < length:
         count += 1
@@ -311,7 +311,7 @@ def doublings(room, length):
 
 
 def most_asked(call, fields):
-    """How often a call may allocate for a row of these fields: one of litrs_build for the text of a
+    """Returns how often a call may allocate for a row: one of litrs_build for the text of a
     literal and for its value, `rewritten` also while the text becomes longer than that of the literal,
     one of litrs_value for the literal and for a value that owns memory, `parse_until` for a value, and
     a collector that is fed the lines of a text once a line where each is answered by `More` or

@@ -24,7 +24,7 @@ LETTERS = {
     "UnknownPrefixLifetime": "t", "Literal": "l", "MalformedLiteral": "l", "Punctuation": "p",
 }
 BAD = {"MalformedLiteral", "UnknownPrefix", "UnknownPrefixLifetime", "UnterminatedBlockComment", "Unknown"}
-# What precedes the tokens of a file, and what does.
+# Texts of files, each with the rest whose tokens are read.
 FILES = [
     ("#!/bin/x -y\nfn", "\nfn"), ("#!/bin/x", ""), ("#!", ""), ("#! [a]", "#! [a]"), ("#![a]", "#![a]"),
     ("#!//b\n/* c */ [a]", "#!//b\n/* c */ [a]"), ("#!//b\n/** c */ [a]", "\n/** c */ [a]"),
@@ -66,7 +66,7 @@ def rows():
 
 
 def is_doc(kind, text):
-    """Whether the token is a documentation comment."""
+    """Returns whether the token is a documentation comment."""
     if kind == "LineComment":
         return text.startswith(b"//!") or re.match(rb"///(?!/)", text)
     return kind == "BlockComment" and re.match(rb"/\*!|/\*\*(?![*/])", text)
@@ -181,7 +181,7 @@ class Tests:
             self.hold(found == wanted, f"{program}: {text!r} is {found}, and {rest!r} {wanted}")
 
     def try_edits(self, program):
-        """What is before a token after white space does not change by an edit after that token."""
+        """An edit does not change the tokens before white space and a token that it follows."""
         pieces = [*PIECES, " ", "\n", "\n ", ".", "x", "r", "##", "'\n"]
         draw = random.Random(1)
         for _ in range(300):

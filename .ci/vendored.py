@@ -33,9 +33,9 @@ from libraries import TOP
 CALLED = ["litrs", "litrs_token", "litrs_prefix", "litrs_lexer", "litrs_build", "litrs_value"]
 CALLED += ["litrs_diagnostic", "litrs_explanation", "litrs_lines"]
 COPIED = [*CALLED, "litrs_c", "litrs_lines_cli"]
-# What of a crate's folder is not copied.
+# Folders of a crate that are not copied.
 LEFT = {"out", "wrong", "must-fail"}
-# How a caller begins.
+# The first line of a caller.
 TACTICS = "#![tactic(auto)]\n"
 BLOCK = re.compile(r"^```(\w+)\n(.*?)^```$", re.M | re.S)
 README = (TOP / "README.md").read_text()
@@ -76,7 +76,7 @@ def broken_links(crate):
 
 
 def faults_of_copies(folder):
-    """What differs in the copies."""
+    """Yields the differences of the copies."""
     ours, copied = libraries.crates_of(TOP), libraries.crates_of(folder)
     wanted = names_of_copies()
     folders = {it.name for it in (folder / "crates").iterdir()}
@@ -154,7 +154,7 @@ def add_callers(folder, callers):
 
 
 def fault_of_proof(folder, crate):
-    """Why the callers in this folder are not proved over the libraries, if they are not."""
+    """Returns why the callers in this folder are not proved, None if they are."""
     crates = libraries.crates_of(folder)
     words = libraries.words_of("check", crates[crate.name], crates, "src/lib.rt")
     how = {"cwd": crate, "stdout": subprocess.PIPE, "stderr": subprocess.STDOUT, "text": True}
@@ -165,7 +165,7 @@ def fault_of_proof(folder, crate):
 
 
 def run_lines(lines, folder):
-    """What lines of the shell print in this folder, and why they failed, if they did."""
+    """Returns what lines of the shell print in this folder, and why they failed, or None."""
     how = {"stdin": subprocess.DEVNULL, "capture_output": True, "text": True, "cwd": folder}
     ran = subprocess.run(["bash", "-e", "-o", "pipefail", "-c", lines], check=False, **how)
     if ran.returncode:
@@ -174,7 +174,7 @@ def run_lines(lines, folder):
 
 
 def fault_of_readme(room):
-    """Why README's lines do not make its program and print what it says, if they do not."""
+    """Returns why README's lines do not make its program or print what it says, None if they do."""
     set_up, run = (it.replace("../yours", str(room)) for it in blocks_of(README, "sh")[:2])
     _, fault = run_lines(set_up, TOP)
     if fault:
@@ -187,12 +187,12 @@ def fault_of_readme(room):
 
 
 def fault_of_line_here():
-    """Why README's line that runs a program of this repository fails, if it does."""
+    """Returns why README's line that runs a program here fails, None if it does not."""
     return run_lines(blocks_of(README, "sh")[2], TOP)[1]
 
 
 def faults_of_callers(folder, callers, room):
-    """What fails of the callers and of README, as many at once as there are processors."""
+    """Yields what fails of the callers and of README, as many at once as there are processors."""
     for caller in callers:
         if named := strangers(caller):
             yield f"{caller.line}: it names {named}"

@@ -41,7 +41,7 @@ import time
 
 import libraries
 
-# How much processor time a check may take: how long it waits for a processor says nothing of it.
+# The processor time that a check may take. Its time on the clock depends on other work.
 SECONDS = 1800
 HARMLESS = pathlib.Path(".ci/harmless")
 
@@ -52,10 +52,10 @@ GHOST = re.compile(r"\s*ghost (?P<name>\w+) ")
 STATUS = re.compile(r"(?:fn|impl) (\S+): (.*)")
 ERROR = re.compile(r"(?:\./)?(proofs|src)/(\S+?):(\d+):\d+: error: (.*)")
 PLACE = re.compile(r"\bsrc/(\S+?\.rt):(\d+):\d+")
-# What the checker says of a goal that has no answer in proofs/ and that its search did not prove.
+# The checker's note on a goal that is not answered in proofs/ and that its search did not prove.
 NOTE = re.compile(r"note: src/(\S+?):(\d+):\d+: it is not proved that (.*)")
 OPEN = re.compile(r"no proof: .*?(`search` did not prove .*)")
-# What `rt ci` says of a crate that is proved, in this run or in an earlier one, and the line that
+# The line of `rt ci` on a crate that is proved, in this run or in an earlier one, and the line that
 # `.ci/run` adds once it has ended.
 PROVED = re.compile(r"(?m)^rt: (\w+) (?:proved|is kept)\b")
 ENDED = "rt ci has ended\n"
@@ -69,7 +69,7 @@ use Rattle.{crate}.proofs.{module}.Statement.{{statement}}
 pub {name}_spec : {{M : Type 1}} → statement M
 {name}_spec = left_out
 """
-# What it says of a proof that names something the edit took away, or that answers a goal which the
+# Its error of a proof that names something the edit took away, or that answers a goal which the
 # edit made trivially true.
 MISSING = re.compile(
     r"has no field|is not in scope|has no `|was not admitted|`Unit \{0\}` is a declared record"
@@ -103,7 +103,7 @@ def segment_of(header):
 
 
 def is_empty(line):
-    """Whether the item that begins on this line has an empty body there, as `impl Error for E {}`."""
+    """Returns whether the item on this line has an empty body, as `impl Error for E {}`."""
     return line.rstrip().endswith("{}")
 
 
@@ -208,7 +208,7 @@ EXAMPLE_PATHS = ["example::free", "example::TokensIterator::next", "example::las
 
 
 def faults_of_names():
-    """What is wrong with the paths that this script gives the functions of the example: all of them
+    """Yields the faults of the paths that this script gives the example's functions: all of them
     listed, and that around each body."""
     found = [path for path, _ in functions_of("example.rt", EXAMPLE.splitlines())]
     places = [it.start() for it in re.finditer("body", EXAMPLE)]
@@ -228,11 +228,11 @@ class WrongBody:
     is_wrong: bool = True
 
     def touches(self, path):
-        """Whether it touches the function of this path."""
+        """Returns whether it touches the function of this path."""
         return any(it == path or it.endswith("::") and path.startswith(it) for it in self.owners)
 
     def clashes(self, other):
-        """Whether both touch a function, or change a line."""
+        """Returns whether both touch a function, or change a line."""
         owners = ((a, b) for a in self.owners for b in other.owners)
         changes = ((a, b) for a in self.changes for b in other.changes)
         return any(
@@ -242,13 +242,13 @@ class WrongBody:
 
 
 def overlap(start, end, other_start, other_end):
-    """Whether two ranges have a line in common. An empty one has that before which it adds."""
+    """Returns whether two ranges share a line. An empty one has the line before which it adds."""
     least_end = min(max(end, start + 1), max(other_end, other_start + 1))
     return max(start, other_start) < least_end
 
 
 def same(old, new):
-    """Whether two texts differ in blanks alone, by which an edit tells an old text from another."""
+    """Returns whether two texts differ in blanks alone, by which an edit tells old texts apart."""
     return "".join(old.split()) == "".join(new.split())
 
 
@@ -328,7 +328,7 @@ class Crate(libraries.Crate):
         return sum(len(it.splitlines()) for it in texts)
 
     def count(self):
-        """How many bodies it has, in words."""
+        """Returns the number of its bodies, in words."""
         harmless = sum(not it.is_wrong for it in self.bodies)
         also = f" and {harmless} harmless" if harmless else ""
         return f"{len(self.bodies) - harmless} wrong bodies{also}"
@@ -350,7 +350,7 @@ def messages_of(output):
 
 
 class Answer:
-    """What a check said: which functions are proved, and of which a goal is open."""
+    """The result of a check: which functions are proved, and of which a goal is open."""
 
     def __init__(self, crate, texts, output):
         lines = messages_of(output)
@@ -391,7 +391,7 @@ class Answer:
 
 @dataclasses.dataclass
 class Outcome:
-    """What came of a body: whether it is a wrong one, whether it was answered as it has to be."""
+    """The result of a body: whether it is wrong, and whether it was answered as it has to be."""
 
     is_wrong: bool
     holds: bool
@@ -531,7 +531,7 @@ class Trial:
 
 
 def unreadable(tried, crates):
-    """What is wrong with the edits, before any is tried."""
+    """Returns the faults of the edits, before any is tried."""
     faults = [it for crate in tried for it in crate.unreadable]
     edits = [*pathlib.Path("crates").glob("*/wrong/*"), *HARMLESS.glob("*")]
     for path in sorted(edits):
@@ -544,7 +544,7 @@ def unreadable(tried, crates):
 
 
 class Proofs:
-    """What an `rt ci` that runs beside this script has proved, by the log that it writes."""
+    """The crates that an `rt ci` beside this script has proved, by the log that it writes."""
 
     def __init__(self, log, crates, room):
         self.log, self.crates, self.room = pathlib.Path(log), crates, pathlib.Path(room)

@@ -4,7 +4,7 @@ use crate::{Call, REFUSED, SHAPES, answer, ours};
 use std::hint::black_box;
 use std::sync::atomic::{AtomicU64, Ordering};
 
-/// How often memory was asked for.
+/// The number of allocations so far.
 #[unsafe(no_mangle)]
 static LITRS_BENCH_ALLOCATIONS: AtomicU64 = AtomicU64::new(0);
 
@@ -23,12 +23,12 @@ std::arch::global_asm!(
     options(att_syntax)
 );
 
-/// How often memory was asked for so far.
+/// Returns the number of allocations so far.
 fn asked() -> u64 {
     LITRS_BENCH_ALLOCATIONS.load(Ordering::Relaxed)
 }
 
-/// Stops where a parse over `&str` does not make just the allocations that it has to: one where the text is a
+/// Stops if a parse over `&str` does not make just the allocations that it has to: one if the text is a
 /// C string, or a quoted string or byte string with a backslash, and none where it is another literal or refused.
 fn check(text: &str) {
     let before = asked();
@@ -39,7 +39,7 @@ fn check(text: &str) {
     assert_eq!(made, u64::from(has_value && !refused), "allocations of {text:?}");
 }
 
-/// How many allocations a text the call makes of these texts, all together.
+/// Returns the mean number of allocations that the call makes for these texts.
 fn count(call: Call, texts: &[&str]) -> f64 {
     let before = asked();
     let mut sum = 0u64;

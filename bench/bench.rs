@@ -238,7 +238,7 @@ impl Numbers {
         (0..len).map(|_| text(self)).collect()
     }
 
-    /// A letter, a digit, or another ASCII character that stands for itself in every quoted literal.
+    /// Draws a letter, a digit, or another ASCII character that is plain in every quoted literal.
     fn plain(&mut self) -> String {
         loop {
             let byte = b' ' + self.below(95) as u8;
@@ -289,7 +289,7 @@ fn grouped(digits: &str, group: usize) -> String {
 
 const TYPES: [&str; 12] = ["u8", "u16", "u32", "u64", "u128", "usize", "i8", "i16", "i32", "i64", "i128", "isize"];
 
-/// What is done with the texts of a shape beside `parse`.
+/// The calls on the texts of a shape beside `parse`.
 #[derive(Clone, Copy, PartialEq)]
 enum Texts {
     /// They are literals with a value.
@@ -479,7 +479,7 @@ fn compare(texts: &[&str], shape: Texts) {
 /// A call that is timed: of a text, by its address and length.
 type Call = unsafe extern "C" fn(*const u8, usize) -> u64;
 
-/// What the call gives of the text.
+/// Returns the answer of the call on the text.
 #[inline(always)]
 fn answer(call: Call, text: &str) -> u64 {
     unsafe { call(text.as_ptr(), text.len()) }

@@ -140,7 +140,7 @@ const INTEGER_ROWS: &[IntegerRow] = &[
     ("integer, base sixteen", 64, ours::build_hexadecimal, display_hexadecimal),
 ];
 
-/// The halves of a number of so many bits.
+/// Draws the halves of a number of `bits` bits.
 fn halves(draw: &mut Draw, bits: u32) -> (u64, u64) {
     let high = if bits > 64 { draw.next() } else { 0 };
     (high, draw.next() >> (64 - bits.min(64)))

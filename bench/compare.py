@@ -18,7 +18,7 @@ CACHE = os.environ.get("XDG_CACHE_HOME", pathlib.Path.home() / ".cache")
 WORK = pathlib.Path(os.environ.get("LITRS_BENCH_WORK", f"{CACHE}/litrs_bench")).resolve()
 ORDERS = range(1, 7)
 CALLS = ["parse", "parse and value", "parse a String"]
-# Where the figures begin in a line of the program, after the kind, the shape and the bytes.
+# The columns of a line of the program at which names end, and figures begin after the bytes.
 NAMES, FIGURES = 43, 52
 
 

@@ -1,4 +1,4 @@
-//! Sources, which are read where they stand, and the literals in them.
+//! Sources, which are read in their folders, and the literals in them.
 
 use crate::Texts::{self, Parsed, Valued};
 use crate::{Call, REFUSED, answer, ours};
@@ -43,7 +43,7 @@ fn quoted_len(rest: &str, quote: u8) -> usize {
     0
 }
 
-/// The length of what is after the `r` of a raw string, 0 where it is none.
+/// Returns the length of a raw string after its `r`, or 0 if `rest` is not one.
 fn raw_len(rest: &str) -> usize {
     let hashes = rest.len() - rest.trim_start_matches('#').len();
     let closing = format!("\"{}", "#".repeat(hashes));
@@ -63,7 +63,7 @@ fn number_len(rest: &str) -> usize {
     }
 }
 
-/// How many bytes at the front of the text are one token, or may be a literal.
+/// Returns the length in bytes of the token at the front of the text, which may be a literal.
 fn token_len(rest: &str) -> usize {
     let after = |front: &str, len: fn(&str) -> usize| match len(&rest[front.len()..]) {
         0 => front.len(),
@@ -139,7 +139,7 @@ pub fn sources_in(folder: &str, extension: &str) -> Vec<String> {
     found
 }
 
-/// Sources below the folder, one after the other, up to so many bytes or a little more.
+/// Returns sources below the folder, one after the other, of `len` bytes or a little more.
 pub fn text_of(folder: &str, len: usize) -> String {
     let mut text = String::new();
     for source in sources_in(folder, "rt") {

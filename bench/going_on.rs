@@ -22,7 +22,7 @@ pub fn least(call: Call, texts: &[&str]) -> f64 {
     least
 }
 
-/// A name, and a text of about so many bytes.
+/// A name, and a function from a length in bytes to a text of about this length.
 type Hostile = (&'static str, fn(usize) -> String);
 
 const HOSTILE: &[Hostile] = &[

@@ -192,7 +192,7 @@ fn tokens_beside(sources: &[String]) -> Found<'_> {
     found
 }
 
-/// Some of the texts, up to so many characters of each.
+/// Returns some of the texts, up to 24 characters of each.
 fn some_of(texts: &[&str]) -> Vec<String> {
     texts.iter().step_by(1 + texts.len() / 8).map(|text| text.chars().take(24).collect()).collect()
 }

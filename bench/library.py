@@ -20,7 +20,7 @@ NAME = "litrs_bench"
 
 
 def run(words, **more):
-    """What the command prints. Stops with that where it fails."""
+    """Returns what the command prints. Stops with that if it fails."""
     words = [str(it) for it in words]
     done = subprocess.run(words, text=True, capture_output=True, **more)
     if done.returncode:
@@ -43,7 +43,7 @@ def toolchain(folder):
 
 
 def in_order(name, crates):
-    """The crates of the repository that this one stands on, each after those below it, and it."""
+    """Returns the crates of the repository below this one, each after those below it, and it."""
     found = []
     for dep in crates[name].deps:
         found += in_order(dep, crates) if dep in crates else []
@@ -65,7 +65,7 @@ def words_of(crate, crates, out):
 
 
 def build(tree, out):
-    """Builds OUT/litrs_bench/liblitrs_bench.a of the tree, after the libraries that it stands on."""
+    """Builds OUT/litrs_bench/liblitrs_bench.a of the tree, after the libraries below it."""
     exports = (tree / f"bench/{NAME}.rt.in").read_text()
     deps = sorted(set(re.findall(r"^use (litrs\w*)::", exports, re.MULTILINE)))
     crates = crates_of(tree) | {NAME: Crate(NAME, [], deps)}

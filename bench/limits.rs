@@ -18,7 +18,7 @@ unsafe extern "C" fn which_bool(text: *const u8, len: usize) -> u64 {
     }
 }
 
-/// What a text is parsed as, in as many bytes as a literal.
+/// The parsed text, in as many bytes as a literal.
 #[allow(dead_code)]
 enum Parsed<'a> {
     Bool(bool),
@@ -54,8 +54,8 @@ unsafe extern "C" fn bool_among_kinds(text: *const u8, len: usize) -> u64 {
     }
 }
 
-/// What is cut of a text of another kind: the places of its parts, and a value of its own where it has one. Each is
-/// a call, as what cuts a literal of ours is.
+/// The cut of a text of another kind: the places of its parts, and a value of its own if it has one. Each is
+/// a call, like each cut of ours.
 struct Cut {
     places: [usize; 3],
     value: Option<String>,
@@ -86,7 +86,7 @@ fn cut_text(text: &str, front: usize) -> Result<Cut, Refusal> {
     }
 }
 
-/// What a text is parsed as, where what is cut is put together in the function that asks for it.
+/// The parsed text, if the parts are put together in the function that asks for it.
 enum Whole<'a> {
     Bool(bool),
     Number(&'a str, [usize; 4]),
@@ -127,13 +127,13 @@ unsafe extern "C" fn bool_beside_kinds(text: *const u8, len: usize) -> u64 {
     }
 }
 
-/// Where a quote stands after the first byte.
+/// Returns the place of a quote after the first byte.
 unsafe extern "C" fn quote_place(text: *const u8, len: usize) -> u64 {
     let text = unsafe { text_at(text, len) };
     text[1..].find('\'').unwrap_or(len) as u64
 }
 
-/// Where the closing quote of a quoted string stands, if it has neither a backslash nor a CR, by one byte after another.
+/// Returns the place of the closing quote of a quoted string without backslash and CR, byte by byte.
 unsafe extern "C" fn closing_quote(text: *const u8, len: usize) -> u64 {
     let body = &unsafe { text_at(text, len) }.as_bytes()[1..];
     match body.iter().position(|byte| matches!(byte, b'"' | b'\\' | b'\r')) {
@@ -147,7 +147,7 @@ unsafe extern "C" fn copied(text: *const u8, len: usize) -> u64 {
     black_box(unsafe { text_at(text, len) }.to_string()).len() as u64
 }
 
-/// Where the suffix of a raw string begins, whose body has no quote.
+/// Returns the place of the suffix of a raw string whose body does not contain a quote.
 unsafe extern "C" fn raw_end(text: *const u8, len: usize) -> u64 {
     let text = unsafe { text_at(text, len) };
     let rest = text[1..].trim_start_matches('#');
@@ -166,7 +166,7 @@ fn hex(digits: &str) -> (u32, usize) {
     (digits.fold(0, |value, digit| 16 * value + digit), len)
 }
 
-/// Adds what the escape or continuation at the front stands for, and gives how many bytes it has.
+/// Appends the value of the escape or continuation at the front, and returns its length in bytes.
 fn push_item(rest: &str, value: &mut Vec<u8>) -> usize {
     let byte = match rest.as_bytes()[1] {
         b'\n' => return rest.len() - rest[1..].trim_start_matches([' ', '\t', '\n']).len(),
@@ -208,7 +208,7 @@ unsafe extern "C" fn unescaped(text: *const u8, len: usize) -> u64 {
     black_box(value).len() as u64
 }
 
-/// The byte that a simple escape or `\xNN` stands for, and how many bytes it has; None where it is refused.
+/// Returns the value of a simple escape or `\xNN` with its length, or `None` if it is refused.
 #[inline(always)]
 fn escaped_byte(rest: &[u8]) -> Option<(u8, usize)> {
     let byte = match *rest.get(1)? {
@@ -278,7 +278,7 @@ fn first_escape(text: &str) -> Result<usize, Refusal> {
     }
 }
 
-/// Where the first escape is refused.
+/// Returns the place of the first escape, or the sum of the ends of its span if it is refused.
 unsafe extern "C" fn refused_escape(text: *const u8, len: usize) -> u64 {
     match first_escape(unsafe { text_at(text, len) }) {
         Ok(place) => place as u64,
@@ -286,7 +286,7 @@ unsafe extern "C" fn refused_escape(text: *const u8, len: usize) -> u64 {
     }
 }
 
-/// How many bytes the parts of a decimal number have, in one number.
+/// Returns the lengths of the parts of a decimal number, in one number.
 unsafe extern "C" fn number_parts(text: *const u8, len: usize) -> u64 {
     let text = unsafe { text_at(text, len) };
     let digits = |rest: &str| rest.find(|c: char| c != '_' && !c.is_ascii_digit()).unwrap_or(rest.len());
@@ -303,8 +303,8 @@ unsafe extern "C" fn number_parts(text: *const u8, len: usize) -> u64 {
     (integer + (end << 8) + ((len - end) << 16)) as u64
 }
 
-/// What is told first of a literal of any kind: how long the parts of a number are, the value of a quoted string with
-/// a backslash, where the suffix of a raw string begins, and where the closing quote of any other text stands.
+/// Returns the first answer on a literal of any kind: the lengths of the parts of a number, the value of a quoted string with
+/// a backslash, the place of the suffix of a raw string, and of the closing quote of any other text.
 unsafe extern "C" fn parts_by_kind(text: *const u8, len: usize) -> u64 {
     let bytes = unsafe { text_at(text, len) }.as_bytes();
     let front = match bytes {
@@ -350,7 +350,7 @@ const FORMS: &[(&str, &str, Call)] = &[
     ("refused: \\x00 after", "where the escape is refused", refused_escape),
 ];
 
-/// The same of literals of real sources.
+/// Likewise for literals of real sources.
 const SOURCE_FORMS: &[(&str, &str, Call)] = &[
     ("all in turn", "the parts or the value of each kind", parts_by_kind),
     ("plain", "where its closing quote stands", closing_quote),

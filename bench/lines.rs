@@ -45,7 +45,7 @@ fn text_of(place: usize) -> (String, usize) {
     (text, count)
 }
 
-/// The same program over the Rust crate: lines by a buffered reader, reports by `write!`, hex by a table.
+/// Like the program, over the Rust crate: lines by a buffered reader, reports by `write!`, hex by a table.
 #[cfg(upstream)]
 mod upstream {
     use crate::REFUSED;

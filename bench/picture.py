@@ -64,7 +64,7 @@ class Row:
         return self.shape in SHOWN.get(self.kind, [])
 
     def is_sound(self):
-        """Whether the times have the ratio that stands beside them."""
+        """Returns whether the times have the ratio beside them."""
         ends = [float(it) for it in self.ratio.split("-")]
         return ends[0] - 0.02 <= self.ours / self.upstream <= ends[-1] + 0.02
 
@@ -94,7 +94,7 @@ def read_table():
 
 
 def fault_of(rows):
-    """What is wrong with the rows, None where nothing is."""
+    """Returns the fault of the rows, None if there is none."""
     if wrong := [it.name() for it in rows if not it.is_sound()]:
         return f"the times do not have the ratio beside them: {wrong}"
     wanted = {(kind, shape) for kind, shapes in SHOWN.items() for shape in shapes}
@@ -104,7 +104,7 @@ def fault_of(rows):
 
 
 def across(time):
-    """Where a time stands, from the left."""
+    """Returns the place of a time, from the left."""
     return LEFT + WIDTH * math.log10(time) / (len(AXIS_NAMES) - 1)
 
 

@@ -22,7 +22,7 @@ const LITERALS: &[(&str, &str)] = &[
     ("CString", "c\"a C string\""),
 ];
 
-/// What follows the literal, and how many bytes of it.
+/// The text after the literal, and its lengths in bytes.
 const REST: &str = ", and more of the text";
 const LENS: [usize; 3] = [0, 100, 100_000];
 
@@ -46,7 +46,7 @@ fn time(call: Call, text: &str) -> f64 {
     least
 }
 
-/// What follows some characters at the front of a text.
+/// The rest of a text after some characters.
 struct Cursor<'a>(&'a str);
 
 impl<'a> Cursor<'a> {
@@ -85,7 +85,7 @@ impl<'a> Cursor<'a> {
         self.skip(continues_name);
     }
 
-    /// Skips hashes, a raw body and its closing, and a suffix. Whether there is one.
+    /// Skips hashes, a raw body and its closing, and a suffix. Returns `true` if there is a body.
     fn skip_raw(&mut self) -> bool {
         let begun = self.0;
         self.skip(|c| c == '#');
@@ -196,7 +196,7 @@ fn our_token_len(text: &str) -> usize {
     }
 }
 
-/// How many tokens a text has, and the least nanoseconds that cutting it takes a token.
+/// Returns the number of tokens of a text, and the least nanoseconds a token that cutting it takes.
 fn time_tokens(text: &str, len: fn(&str) -> usize) -> (usize, f64) {
     let (mut count, mut least) = (0, f64::INFINITY);
     for _ in 0..20 {

@@ -28,8 +28,8 @@ const SHAPES: &[(&str, &str, &str, &str)] = &[
     ("a byte string", "b\"", "\\x00", "\""),
 ];
 
-/// A literal of so many lines. It takes one allocation, so that no free memory is left between texts, where what is
-/// collected would be kept at first, and moved out of when it has grown.
+/// Returns a literal of `lines` lines. It takes one allocation, so there is no free memory between texts, in which
+/// the collected lines would be kept at first, and from which they would be moved once they have grown.
 fn text_of((_, front, end, closing): (&str, &str, &str, &str), lines: usize) -> String {
     let mut text = String::with_capacity(front.len() + (LINE_LEN + 1) * lines + closing.len());
     text.push_str(front);
@@ -57,7 +57,7 @@ fn keep_memory() {
     }
 }
 
-/// The time of so many calls, in nanoseconds.
+/// Returns the time of `calls` calls, in nanoseconds.
 fn time(call: Call, text: &str, calls: usize) -> f64 {
     let start = Instant::now();
     for _ in 0..calls {

@@ -89,7 +89,7 @@ def typed_texts(draw):
 
 
 def is_left_out(text, kind):
-    """Whether this is an integer without a suffix, as a float."""
+    """Returns whether this is an integer without a suffix, as a float."""
     return kind in ("f32", "f64") and re.fullmatch("-?(0x[0-9a-fA-F_]+|(0[ob])?[0-9_]+)", text)
 
 

@@ -39,7 +39,7 @@ unsafe extern "C" fn float(at: *const u8, len: usize) -> u64 {
     number.parse::<f64>().map_or(NONE, f64::to_bits)
 }
 
-/// The same, copied in any case, as syn has its digits.
+/// Likewise, but always copied, as syn has its digits.
 unsafe extern "C" fn float_copied(at: *const u8, len: usize) -> u64 {
     let mut number = number_part(unsafe { text(at, len) }).to_string();
     number.retain(|c| c != '_');
@@ -85,7 +85,7 @@ fn time<const N: usize>(texts: &[&str], calls: [Call; N]) -> [f64; N] {
     least
 }
 
-/// The literals of the sources that begin with a digit, as they stand there.
+/// Returns the literals of the sources that begin with a digit, as they are written.
 fn numbers(sources: &[String]) -> Vec<&str> {
     let mut found = Vec::new();
     for source in sources {
@@ -115,7 +115,7 @@ const ROWS: &[Row] = &[
     ("read::<u32>, beside str::parse alone", is_plain, ours::read_u32, integer_alone),
 ];
 
-/// Whether `str::parse` takes the text as it is.
+/// Returns `true` if `str::parse` takes the text as it is.
 fn is_plain(text: &str) -> bool {
     text.bytes().all(|byte| matches!(byte, b'0'..=b'9' | b'.' | b'e' | b'E' | b'+' | b'-'))
 }

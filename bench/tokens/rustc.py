@@ -19,7 +19,7 @@ EDITIONS = ["2015", "2018", "2021", "2024"]
 
 
 def bytes_of(field):
-    """The bytes that a field stands for."""
+    """Returns the bytes that a field denotes."""
     parts = re.split("%([0-9a-f]{2})", field)
     return b"".join(bytes.fromhex(it) if n % 2 else it.encode() for n, it in enumerate(parts))
 
@@ -33,7 +33,7 @@ def row_of(error):
 
 
 def answers(texts, edition, folder):
-    """What rustc reads in each text: letters and lengths, `error` after them if it reports one."""
+    """Returns what rustc reads in each text: letters, lengths, and `error` if it reports one."""
     build = ["rustc", "--edition", edition, "--crate-type", "proc-macro", HERE / "tokens.rs"]
     subprocess.run([*build, "-o", folder / "libtokens.so"], check=True)
     calls = "".join(f"tokens::tokens! {{{row}}}\n" for row in range(len(texts)))

@@ -44,7 +44,7 @@ fn add_tokens(stream: TokenStream, found: &mut Vec<String>) {
     }
 }
 
-/// Returns the text that the hexadecimal digits of its bytes stand for.
+/// Returns the text whose bytes the hexadecimal digits denote.
 fn text_of(digits: &str) -> String {
     let byte = |at: usize| u8::from_str_radix(&digits[at..at + 2], 16).unwrap();
     String::from_utf8((0..digits.len()).step_by(2).map(byte).collect()).unwrap()

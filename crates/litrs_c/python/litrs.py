@@ -36,7 +36,7 @@ _Text = Union[str, _Bytes]
 
 _SIZE, _WORD, _LONG, _BOOL = ctypes.c_size_t, ctypes.c_uint32, ctypes.c_uint64, ctypes.c_bool
 _LITERAL, _REFUSED, _NOT_UTF8, _OUT_OF_MEMORY, _NO_STRING, _NO_PREFIX = range(6)
-# How many bytes more than the arguments of a call have there is room for at first.
+# The first room for a result has this many bytes more than the arguments of its call.
 _MORE = 100
 
 
@@ -335,7 +335,7 @@ def _written(call, *words):
 
 
 def _with_room(call, words, size):
-    """Calls with room for so many bytes. Returns the room and the answer."""
+    """Calls with room for `size` bytes. Returns the room and the answer."""
     room = ctypes.create_string_buffer(size)
     return room, _calls[call](*words, room, size)
 
