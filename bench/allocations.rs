@@ -28,8 +28,8 @@ fn asked() -> u64 {
     LITRS_BENCH_ALLOCATIONS.load(Ordering::Relaxed)
 }
 
-/// Stops if a parse over `&str` does not make just the allocations that it has to: one if the text is a
-/// C string, or a quoted string or byte string with a backslash, and none where it is another literal or refused.
+/// Stops if a parse over `&str` does not make just its allocations: one for a C string, and for a quoted string or
+/// byte string with a backslash. For other literals and refused texts there is none.
 fn check(text: &str) {
     let before = asked();
     let refused = answer(ours::parse, text) & REFUSED != 0;

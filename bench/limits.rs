@@ -226,8 +226,8 @@ fn escaped_byte(rest: &[u8]) -> Option<(u8, usize)> {
     Some((byte, 2))
 }
 
-/// Puts the value of a quoted string of few bytes together, and frees it, where the text is one: it is put together
-/// on the stack while its characters and escapes are tested, and copied once the text ends with the closing quote.
+/// Makes the value of a quoted string of few bytes, if the text is one, and frees it. The value is made on the stack
+/// while the characters and escapes are tested, and copied once the text ends with the closing quote.
 unsafe extern "C" fn tested(text: *const u8, len: usize) -> u64 {
     let text = unsafe { text_at(text, len) }.as_bytes();
     let mut room = [0; 80];
@@ -303,8 +303,9 @@ unsafe extern "C" fn number_parts(text: *const u8, len: usize) -> u64 {
     (integer + (end << 8) + ((len - end) << 16)) as u64
 }
 
-/// Returns the first answer on a literal of any kind: the lengths of the parts of a number, the value of a quoted string with
-/// a backslash, the place of the suffix of a raw string, and of the closing quote of any other text.
+/// Returns the first answer on a literal of any kind. For a number this is the lengths of its parts, for a quoted
+/// string with a backslash its value. For a raw string it is the place of the suffix, and for any other text that of
+/// the closing quote.
 unsafe extern "C" fn parts_by_kind(text: *const u8, len: usize) -> u64 {
     let bytes = unsafe { text_at(text, len) }.as_bytes();
     let front = match bytes {

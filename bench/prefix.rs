@@ -1,5 +1,5 @@
-//! Times the literal at the front of a longer text: of each kind, before rests of several lengths, and all tokens of
-//! a source, beside a cut of the same tokens as rustc_lexer makes it, which answers their lengths alone.
+//! Times the literal at the front of a longer text, of each kind and before rests of several lengths. Times all tokens
+//! of a source, beside a cut of the same tokens by their lengths alone, as rustc_lexer makes it.
 
 use crate::{Call, answer, corpus, ours};
 use std::hint::black_box;

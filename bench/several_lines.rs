@@ -28,8 +28,8 @@ const SHAPES: &[(&str, &str, &str, &str)] = &[
     ("a byte string", "b\"", "\\x00", "\""),
 ];
 
-/// Returns a literal of `lines` lines. It takes one allocation, so there is no free memory between texts, in which
-/// the collected lines would be kept at first, and from which they would be moved once they have grown.
+/// Returns a literal of `lines` lines. It takes one allocation, so there is no free memory between texts. The
+/// collected lines would be kept there at first, and be moved once they have grown.
 fn text_of((_, front, end, closing): (&str, &str, &str, &str), lines: usize) -> String {
     let mut text = String::with_capacity(front.len() + (LINE_LEN + 1) * lines + closing.len());
     text.push_str(front);

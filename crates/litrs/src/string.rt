@@ -54,7 +54,7 @@ impl<B: Text> StringLit<B> {
     ///
     /// Returns `Empty`; `InvalidStringLiteralStart` at the first byte if that is neither `"` nor
     /// `r`; or the error of [`cut_quoted`](litrs_lex::cut_quoted) or
-    /// [`scan_raw_string`](litrs_lex::scan_raw_string): for `"ab` that is `UnterminatedString`, and
+    /// [`scan_raw_string`](litrs_lex::scan_raw_string). For `"ab` that is `UnterminatedString`, and
     /// for `"\x80"` `NonAsciiXEscape` at 1..5. Returns `OutOfMemory` without a span if `input` is a
     /// string and the allocation of its value fails.
     #[inline(always)]

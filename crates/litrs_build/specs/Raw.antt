@@ -17,8 +17,8 @@ use Rattle.litrs_build.specs.declared.error.BuildError.TheVariants.{NotASuffix, 
 abbrev pub greater : ℕ → ℕ → ℕ
 greater a b = if nat_lt a b then b else a
 
--- The least number of hashes with which nothing in the body closes it: one more than the longest
--- run of hashes after a quote, or 0 if the body has no quote.
+-- The least number of hashes with which nothing in the body closes it. This is one more than the
+-- longest run of hashes after a quote, or 0 if the body has no quote.
 unfoldable pub hashes_needed : List ℕ → ℕ
 hashes_needed [] = 0
 hashes_needed (c ∷ cs) = greater (if is_quote c then 1 + hash_len cs else 0) (hashes_needed cs)

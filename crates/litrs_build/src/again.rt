@@ -26,7 +26,7 @@ use std::alloc::{AllocError, Global};
 /// [`raw_byte_string`] and [`raw_c_string`], with the fewest hashes possible. A bool, an integer
 /// and a float keep their text.
 ///
-/// The text may be longer than that of `lit`: an unescaped character that is not printable is
+/// The text may be longer than that of `lit`. An unescaped character that is not printable is
 /// escaped, and so is a combining one (Grapheme_Extend) after a quote or an escape.
 ///
 /// There is one allocation for the text, and one for the value if [`Literal::parse`] makes one; for

@@ -61,8 +61,8 @@ pub fn integer(
 ///
 /// # Errors
 ///
-/// `NotASuffix` if and only if no integer of the base has the suffix: it is neither empty nor an
-/// identifier, or begins with `e`, `E`, `_` or a digit of the base, for example `f32` in base
+/// `NotASuffix` if and only if no integer of the base has the suffix. Then it is neither empty nor
+/// an identifier, or begins with `e`, `E`, `_` or a digit of the base, for example `f32` in base
 /// sixteen. This is decided before the allocation. `Memory` if the allocation fails.
 ///
 /// [ref]: https://doc.rust-lang.org/reference/tokens.html#integer-literals

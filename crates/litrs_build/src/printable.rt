@@ -5,8 +5,8 @@ ghost use Rattle.litrs_build.specs.Printable.{is_printable};
 use unicode::properties::{GeneralCategory, GeneralCategoryGroup};
 
 /// Returns `true` if `c` is the space U+0020, or if its general category is in neither the group
-/// Other (controls, format characters, surrogates, private use, unassigned) nor the group Separator
-/// (spaces, separators of lines and of paragraphs).
+/// Other nor the group Separator. Other are controls, format characters, surrogates, private use
+/// and unassigned ones; Separator are spaces and separators of lines and of paragraphs.
 ///
 /// `a`, `é` and the space are printable; LF, U+00A0 and U+200B are not. The categories are those of
 /// the crate `unicode`. See The Unicode Standard, section 4.5.

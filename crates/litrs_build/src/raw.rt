@@ -53,8 +53,8 @@ pub fn raw_string(alloc: Global, value: &str, suffix: &str) -> Result<StringLit<
 ///
 /// # Errors
 ///
-/// `NotASuffix` if `suffix` is neither empty nor an identifier, otherwise `NotRaw` if `value` is
-/// not ASCII, contains a CR or needs more than 255 hashes, otherwise `Memory` if the allocation
+/// `NotASuffix` if `suffix` is neither empty nor an identifier. Otherwise `NotRaw` if `value` is
+/// not ASCII, contains a CR or needs more than 255 hashes. Otherwise `Memory` if the allocation
 /// fails.
 ///
 /// [ref]: https://doc.rust-lang.org/reference/tokens.html#raw-byte-string-literals
@@ -80,16 +80,16 @@ pub fn raw_byte_string(
 }
 
 /// Builds the raw C string with this value, given without its closing NUL, and with this suffix,
-/// which may be empty, with the fewest hashes possible, for example `cr"C:\"` or `cr#"a"b"#`. See
+/// which may be empty. It has the fewest hashes possible, for example `cr"C:\"` or `cr#"a"b"#`. See
 /// [the reference][ref].
 ///
 /// There is one allocation for the text, and one for the value.
 ///
 /// # Errors
 ///
-/// `NotASuffix` if `suffix` is neither empty nor an identifier, otherwise `HasNul` if `value`
-/// contains a NUL, otherwise `NotRaw` if it is not UTF-8, contains a CR or needs more than 255
-/// hashes, otherwise `Memory` if an allocation fails.
+/// `NotASuffix` if `suffix` is neither empty nor an identifier. Otherwise `HasNul` if `value`
+/// contains a NUL, and `NotRaw` if it is not UTF-8, contains a CR or needs more than 255 hashes.
+/// Otherwise `Memory` if an allocation fails.
 ///
 /// [ref]: https://doc.rust-lang.org/reference/tokens.html#raw-c-string-literals
 pub fn raw_c_string(

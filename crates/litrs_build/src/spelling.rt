@@ -102,8 +102,8 @@ impl Spelling {
     }
 }
 
-/// Returns the spelling of a character that has no short escape: itself if it is printable and does
-/// not combine with a quote or an escape before it, otherwise its number.
+/// Returns the spelling of a character that has no short escape. This is itself if it is printable
+/// and does not combine with a quote or an escape before it, otherwise its number.
 fn shown_or_number(c: char, follows_mark: bool) -> Spelling
     ensures { result ≡ shown_or_number follows_mark c }
 {

@@ -4,9 +4,9 @@ use Rattle.ucd_category.specs.GeneralCategory.{general_category}
 use Rattle.ucd_category.specs.GeneralCategoryGroup.{in_group}
 use Rattle.ucd_category.specs.declared.GeneralCategoryGroup.TheVariants.{Other, Separator}
 
--- A character is printable if its general category is of neither the group Other (controls, format
--- characters, surrogates, private use, unassigned) nor the group Separator (spaces, separators of
--- lines and of paragraphs), or if it is the space U+0020.
+-- A character is printable iff it is the space U+0020, or its general category is of neither the
+-- group Other nor the group Separator. Other are controls, format characters, surrogates, private
+-- use and unassigned ones; Separator are spaces and separators of lines and of paragraphs.
 unfoldable pub is_printable : ℕ → Bool
 is_printable c =
     (c == 32)

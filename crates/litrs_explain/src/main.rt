@@ -1,5 +1,5 @@
-//! Explains the Rust literals in files to a person: the kind of each, its value and its parts, and
-//! for a text that is not a literal what is wrong and where. See `docs/EXPLAIN.md`.
+//! Explains the Rust literals in files to a person: the kind of each, its value and its parts. For
+//! a text that is not a literal it says what is wrong and where. See `docs/EXPLAIN.md`.
 //!
 //! ```text
 //! numbers.rs:1:9: integer

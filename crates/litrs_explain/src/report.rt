@@ -220,8 +220,8 @@ fn sign_note(alloc: Global, text: &str) -> &'static str {
     }
 }
 
-/// Returns `true` if a file that was read line by line, with this number of lines that are literals
-/// and of lines with errors, seems to be a text with literals in it.
+/// Returns `true` if a file that was read line by line seems to be a text with literals in it,
+/// given the numbers of literals and of errors.
 fn is_other_text(literals: usize, errors: usize) -> bool
     ensures { IsTrue result ↔ ((2 ≤ errors) × (literals < errors)) }
 {

@@ -29,9 +29,9 @@
 //!   suffix u8
 //! ```
 //!
-//! The value of a float is shown in decimal, the value of a char or a string as the literal that
-//! `litrs_build` builds of it, and a character of a suffix that is not printable as `\u{..}`. So
-//! every character of an explanation is an LF or printable.
+//! The value of a float is shown in decimal, and the value of a char or a string as the literal
+//! that `litrs_build` builds of it. A character of a suffix that is not printable is shown as
+//! `\u{..}`. So every character of an explanation is an LF or printable.
 #![tactic(auto)]
 
 ghost use Rattle.std.specs.Prelude.{◌≡◌, ◌++◌, [], length, take, IfOk, OnOk, MatchOption, IsTrue, IsFalse, codes, string_bytes, encode_utf8_all};

@@ -10,8 +10,9 @@ use Rattle.litrs_grammar.specs.Literal.{StringParts, quoted_parts, raw_parts, De
 abbrev pub has_backslash : List ℕ → Bool
 has_backslash t = list_any (λ c. c == backslash) t
 
--- A parse may allocate for every C string, because its value ends with a zero byte, and for a
--- quoted string or byte string with a backslash, because its value differs from its body.
+-- A parse may allocate for every C string, because its value ends with a zero byte. It may also
+-- allocate for a quoted string or byte string with a backslash, because its value differs from its
+-- body.
 abbrev pub may_allocate : List ℕ → Bool
 may_allocate t =
     (begins_with (codes "\"") t || begins_with (codes "b\"") t) && has_backslash t

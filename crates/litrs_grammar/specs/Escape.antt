@@ -1,6 +1,6 @@
--- Escapes. The Rust Reference, Tokens, Literals: the tables "Quote escapes", "ASCII escapes",
--- "Byte escapes" and "Unicode escapes", and which of them each literal has, under
--- "Character escapes", "Byte literals", "Byte string literals" and "C string literals".
+-- Escapes. The Rust Reference, Tokens, Literals: the tables "Quote escapes", "ASCII escapes", "Byte
+-- escapes" and "Unicode escapes". The escapes of each literal are under "Character escapes", "Byte
+-- literals", "Byte string literals" and "C string literals".
 use Rattle.std.specs.Prelude.{ℕ, ◌+◌, ◌*◌, Bool, false, not, ◌==◌, ◌&&◌, ◌||◌, nat_lt, nat_le, if◌then◌else◌, List, [], ◌∷◌, ◌++◌, Option, Some, None, IsTrue, length, slice_index, drop, zero, suc, count_by, take_while, encode_utf8}
 use Rattle.std.specs.Char.{is_ascii_hexdigit, digit_value}
 use Rattle.std.specs.List.{list_all, list_any, before_first}
@@ -90,8 +90,8 @@ is_escape w (unicode_escape inner) =
 abbrev pub IsEscape : Switches → Escape → Type 0
 IsEscape w e = IsTrue (is_escape w e)
 
--- The escape at the front of a text, if there is one: a backslash, followed by `x` and two
--- characters, by `u` and the characters up to the first `}`, or by one character.
+-- The escape at the front of a text, if there is one: a backslash and what it needs after it. This
+-- is `x` and two characters, `u` and the characters up to the first `}`, or one character.
 abbrev pub escape_at_front : List ℕ → Escape
 escape_at_front t =
     let letter = slice_index t 1 in

@@ -23,7 +23,7 @@ is_suffix (c ∷ cs) =
 abbrev pub is_ascii_symbol : ℕ → Bool
 is_ascii_symbol c = is_ascii c && not (is_ascii_alphabetic c || (c == underscore))
 
--- The error kind of a text that is not a suffix: it starts with an ASCII character that is neither
--- a letter nor `_`, or it is not a suffix for another reason.
+-- The error kind of a text that is not a suffix, by its first character: ASCII but neither a letter
+-- nor `_`, or any other.
 abbrev pub suffix_refusal : List ℕ → ParseErrorKind
 suffix_refusal t = if first_passes is_ascii_symbol t then UnexpectedChar else InvalidSuffix

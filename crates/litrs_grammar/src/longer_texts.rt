@@ -76,8 +76,8 @@ pub fn literals_parse_back()
 {}
 
 /// Proves that two bodies between a front and a quote with a suffix are a quoted literal with the
-/// items of both, unless the second starts with white space that a continuation at the end of the
-/// first would skip.
+/// items of both. The exception: the second starts with white space that a continuation at the end
+/// of the first would skip.
 pub fn joined_bodies_are_quoted()
     ensures { JoinedBodiesAreQuoted }
 {}

@@ -78,8 +78,8 @@ pub record HasValueWithin (w : Switches) (bytes : List ℕ) (offset room : ℕ) 
   pub grammar : IsQuoted (chars (take offset bytes)) w (chars bytes) parts
   pub fits : length (body_value parts.items) ≤ room
 
--- The reading ends at the closing quote, with the whole value; or in a state in which the value
--- does not fit the room; or at the end of the items, and the text is refused.
+-- The reading ends at the closing quote, with the whole value, or in a state in which the value
+-- does not fit the room. Or it ends at the end of the items, and the text is refused.
 abbrev pub HasReached : Switches → List ℕ → ℕ → (List ℕ → Type 0) → (room : ℕ) → Reached → Type 0
 HasReached w bytes offset holds room (Quote place) = IsReadBody w bytes offset holds place
 HasReached w bytes offset holds room (Full s) =

@@ -41,8 +41,9 @@ pub enum BodyStop {
     Refused,
 }
 
-/// Returns where the items of the quoted body end that begins at `offset`, and what ends them: for
-/// `"a\n"u8` from 1 the quote at 4, for `"a\u{4` the end of the text, within the escape at 2.
+/// Returns where the items of the quoted body end that begins at `offset`, and what ends them. For
+/// `"a\n"u8` from 1 that is the quote at 4, for `"a\u{4` the end of the text, within the escape at
+/// 2.
 ///
 /// An escape or a continuation that ends the text is not among the items. `offset` is a character
 /// boundary of `input`, as for [`cut_quoted`](crate::cut_quoted).

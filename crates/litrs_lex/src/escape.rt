@@ -21,18 +21,20 @@ use litrs_base::{ParseError, ParseErrorKind, Switches, Unescape};
 /// # Errors
 ///
 /// The spans count from the backslash.
-/// - `UnterminatedEscape` at 0..1 if `input` has fewer than two characters, even if it is empty; or
-///   over all of `input` if no character ends after the two bytes that follow `\x`.
+/// - `UnterminatedEscape` at 0..1 if `input` has fewer than two characters, even if it is empty. It
+///   is over all of `input` if no character ends after the two bytes that follow `\x`.
 /// - `DisallowedNulEscape` over the escape if its value is 0 and that is not allowed.
 /// - `InvalidXEscape` if `\x` is not followed by two hex digits, and `NonAsciiXEscape` if their
 ///   value is above 7F and that is not allowed, both at 0..4.
 /// - `UnicodeEscapeInByteLiteral` if `\u` is not allowed, and `UnicodeEscapeWithoutBrace` if it is
 ///   not followed by `{`, both at 0..2.
-/// - `UnterminatedUnicodeEscape` over all of `input` if no `}` follows. Otherwise, by the text
-///   before the first `}`: `InvalidStartOfUnicodeEscape` at 3..4 if it is empty or starts with `_`;
-///   `NonHexDigitInUnicodeEscape` at the first character that is neither a hex digit nor `_`, or
+/// - `UnterminatedUnicodeEscape` over all of `input` if no `}` follows. The next errors are about
+///   the text before the first `}`.
+/// - `InvalidStartOfUnicodeEscape` at 3..4 if it is empty or starts with `_`.
+/// - `NonHexDigitInUnicodeEscape` at the first character that is neither a hex digit nor `_`, or
 ///   `TooManyDigitInUnicodeEscape` at the seventh digit, whichever comes first, over its first
-///   byte; `InvalidUnicodeEscapeChar` over the escape if the value is not a character.
+///   byte.
+/// - `InvalidUnicodeEscapeChar` over the escape if the value is not a character.
 /// - `UnknownEscape` at 0..2 if another character follows the backslash.
 ///
 /// [ref]: https://doc.rust-lang.org/reference/tokens.html#character-escapes

@@ -145,8 +145,8 @@ fn cut_body(
 }
 
 /// Returns the first place from `start` on at which a raw body is closed by a quote and `hashes`
-/// hashes, or contains a byte that it may not contain; else the end of the text. In `a"b"#` from 0
-/// on with one hash that is 3.
+/// hashes, or contains a byte that it may not contain. If there is none, returns the end of the
+/// text. In `a"b"#` from 0 on with one hash that is 3.
 #[inline(always)]
 pub fn body_end(bytes: &[u8], start: usize, hashes: usize, allowed: Switches) -> usize
     requires { (start ≤ length bytes.now) × IsUtf8 (drop start bytes.now) }

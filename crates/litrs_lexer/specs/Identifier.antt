@@ -33,8 +33,8 @@ IsRawIdentifier t rest =
     (name : List ℕ) × (t ≡ letter_r ∷ hash ∷ name) × IsTrue (begins_name name)
     × (rest ≡ after_name name)
 
--- A reserved prefix is at the front of the text, up to the rest: the whole name, directly before
--- `"`, `'` or `#`, where the two begin neither a literal nor a raw identifier.
+-- A reserved prefix is at the front of the text, up to the rest. It is the whole name, directly
+-- before `"`, `'` or `#`, if the two begin neither a literal nor a raw identifier.
 abbrev pub IsUnknownPrefix : (t rest : List ℕ) → Type 0
 IsUnknownPrefix t rest =
     IsTrue (begins_name t) × (rest ≡ after_name t) × IsTrue (first_passes is_quote_or_hash rest)

@@ -10,8 +10,8 @@ use Rattle.litrs_prefix.specs.Meant.{IsMeant}
 use Rattle.litrs_prefix.specs.Opens.{first_name, opens}
 use Rattle.litrs_prefix.specs.Prefix.{HasPrefix, HasNoPrefix}
 
--- The text starts with the beginning of a literal that is not a bool: a digit, a quote, or the
--- front of a literal with a prefix, as `b"` and `r#"`.
+-- The text starts with the beginning of a literal that is not a bool. This is a digit, a quote, or
+-- the front of a literal with a prefix, as `b"` and `r#"`.
 abbrev pub opens_quoted : List ℕ → Bool
 opens_quoted t = opens t && not (is_bool (first_name t))
 
@@ -19,7 +19,7 @@ opens_quoted t = opens t && not (is_bool (first_name t))
 abbrev pub IsLiteralToken : (t rest : List ℕ) → Type 0
 IsLiteralToken t rest = (d : Derivation) × HasPrefix t d rest
 
--- A malformed literal is at the front of the text, up to the rest: a literal begins there that is
+-- A malformed literal is at the front of the text, up to the rest. A literal begins there that is
 -- not a bool, none is valid there, and the piece that `litrs_prefix` takes for it is not a literal.
 abbrev pub IsMalformedLiteral : (t rest : List ℕ) → Type 0
 IsMalformedLiteral t rest =

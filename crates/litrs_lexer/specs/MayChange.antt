@@ -42,9 +42,9 @@ is_malformed MalformedLiteral = true
 is_malformed kind = false
 
 -- `true` iff more text can change the token of this kind, which is not a malformed literal, at the
--- front of the text, up to the rest: the token is at the end, and neither a closed comment nor one
--- character; it is a `/` at the end; or only hashes follow a prefix, with which more text begins a
--- literal or a raw name.
+-- front of the text, up to the rest. Then the token is at the end, and neither a closed comment nor
+-- one character; or it is a `/` at the end. Or only hashes follow a prefix, with which more text
+-- begins a literal or a raw name.
 abbrev pub is_open : TokenKind → (t rest : List ℕ) → Bool
 is_open BlockComment t rest = false
 is_open Unknown t rest = false

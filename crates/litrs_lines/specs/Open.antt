@@ -70,7 +70,7 @@ IsReadToLastLine held (Some string) =
     × ((lines : List ℕ) × (lines ++ line_feed ∷ [] ≡ held) × IsInLastLine string.place lines)
 
 -- The text is unfinished, and with an LF after it begins this string, which is read up to its last
--- line; or there is no string, and the text with an LF after it does not begin a literal.
+-- line. Or there is no string, and the text with an LF after it does not begin a literal.
 abbrev pub IsAfter : List ℕ → Option Open → Type 0
 IsAfter t (Some string) =
     IsUnfinished t × IsOpen (t ++ line_feed ∷ []) string × IsInLastLine string.place t

@@ -111,7 +111,7 @@ impl Collector {
     ///
     /// `More` and `Refused` take at most one allocation.
     ///
-    /// While the lines are a string that continues, a call takes time in proportion to `line`: of
+    /// While the lines are a string that continues, a call takes time in proportion to `line`. Of
     /// the lines before it, at most the end of the last one is read again. `Literal` and `Refused`
     /// take time in proportion to all lines.
     ///

@@ -211,10 +211,10 @@ fn finish<O: Output>(line: &[u8], reporter: &mut Reporter<O>) -> Result<(), RunE
 ///
 /// # Errors
 ///
-/// Returns `Read` if the reader failed or was read 2^64 - 1 times, which a reader whose bytes are
-/// known never is; `Write` if the writer failed; and `Memory` if an allocation failed. The bytes
-/// that were written are then a prefix of the reports on the groups of the whole lines that were
-/// read.
+/// Returns `Read` if the reader failed, or was read 2^64 - 1 times, which a reader whose bytes are
+/// known never is. Returns `Write` if the writer failed, and `Memory` if an allocation failed. The
+/// bytes that were written are then a prefix of the reports on the groups of the whole lines that
+/// were read.
 ///
 /// A failed call is never made again, so an error of the kind `Interrupted` ends the run as well:
 /// see [`StdInput`] and [`StdOutput`].

@@ -59,9 +59,9 @@ opens_bytes [] = false
 opens_bytes (c ∷ t) =
     (c == single_quote) || (c == double_quote) || ((c == letter_r) && opens_raw t)
 
--- `true` iff a literal begins at the front of the text: a decimal digit; `"`; `'` that does not
--- begin a lifetime; the front of a raw string, a byte, a byte string or a C string; or a bool that
--- is the whole name there.
+-- `true` iff a literal begins at the front of the text. This is a decimal digit, `"`, or `'` that
+-- does not begin a lifetime. It is also the front of a raw string, a byte, a byte string or a C
+-- string, or a bool that is the whole name there.
 abbrev pub opens : List ℕ → Bool
 opens [] = false
 opens (c ∷ t) =

@@ -40,8 +40,8 @@ abbrev pub StartsWithDelimiter : (delimiters : List ℕ) → List ℕ → Type 0
 StartsWithDelimiter delimiters t =
     IsTrue (is_empty t || first_passes (is_delimiter delimiters) t)
 
--- `e` is the error of the parse of a literal of any kind for the text `t`, which is `start` bytes
--- into a longer one, with its spans moved by `start`.
+-- `e` is the error of the parse of a literal of any kind for the text `t`, with its spans moved by
+-- `start`. The text is `start` bytes into a longer one.
 pub record IsRefusedUntil (start : ℕ) (t : List ℕ) (e : MalformedPrefix) : Type 0 where
   pub of_text : ParseError
   pub refused : IsRefusedOrOutOfMemory literal_parse t of_text

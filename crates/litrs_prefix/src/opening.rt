@@ -9,8 +9,9 @@ ghost use Rattle.litrs_prefix.specs.Opens.{first_name, begins_lifetime, is_singl
 use crate::name::{after_hashes, after_name, begins_name, continues_name};
 use litrs_base::split_first_char;
 
-/// Returns `true` if a literal begins at the front of `text`, by its first characters: for `12abc`,
-/// `0b12`, `"a`, `b'`, `r#"` and `true`, but not for `abc`, `r#a`, `'a, 'b`, `trueish` and ` 1`.
+/// Returns `true` if a literal begins at the front of `text`, by its first characters. It does in
+/// `12abc`, `0b12`, `"a`, `b'`, `r#"` and `true`, but not in `abc`, `r#a`, `'a, 'b`, `trueish` and
+/// ` 1`.
 pub fn opens(text: &str) -> bool
     ensures { result ≡ opens (chars text.now) }
 {

@@ -250,9 +250,9 @@ fn after_integer(text: &str) -> Option<&str>
     }
 }
 
-/// Returns the part of `text`, which is the front of a char or a byte and `body`, after the char or
-/// byte, if it has no suffix before an ASCII character that no name has, or the end of the text.
-/// Otherwise returns `None`.
+/// Returns the part of `text`, which is the front of a char or a byte and `body`, after that
+/// literal. The literal has no suffix, and precedes an ASCII character that no name has, or the end
+/// of the text. Otherwise returns `None`.
 fn after_char<'a>(text: &'a str, body: &'a str, kind: CharKind) -> Option<&'a str>
     requires front { chars text.now ≡ char_front kind ++ chars body.now }
     requires end { IsEndOf text.now body.now }

@@ -1,6 +1,6 @@
-//! Tests of what no contract says, over the public calls of all crates: that calls that allocate
-//! succeed while there is memory, and how much they ask for; what is printed at a width or a
-//! precision, and of diagnostics; how often devices are called; and the sizes of types.
+//! Tests of facts that no contract states, over the public calls of all crates. Calls that allocate
+//! succeed while there is memory, and ask for a known amount. Other tests are about texts printed
+//! at a width or a precision, diagnostics, the number of calls of devices, and the sizes of types.
 #![tactic(auto)]
 
 #[cfg(test)]

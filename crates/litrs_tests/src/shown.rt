@@ -5,14 +5,15 @@
 //!
 //! - A range over several lines is marked on its first and its last line, each with carets of its
 //!   own; rustc draws a bar from one to the other.
-//! - A character that is not printable is written as `\u{..}`; rustc writes a picture of a control
-//!   character, U+FFFD in place of a bidi control, and a zero-width joiner not at all.
+//! - A character that is not printable is written as `\u{..}`. The compiler writes a picture of a
+//!   control character, and U+FFFD in place of a bidi control; it does not write a zero-width
+//!   joiner.
 //! - A place after the LF at the end of the text is the end of the last line; rustc marks the same
 //!   characters, and its column counts the LF.
 //! - A blank follows the `|` before an empty line.
-//! - Of a line that is cut, the `...` are not counted to the width, and what is before the range
-//!   has half of what the range leaves of it; rustc shows the line from its start as long as the
-//!   range has room, and a range that is wider whole.
+//! - Of a line that is cut, the `...` do not count for the width, and the text before the range has
+//!   half of the width that the range leaves. The compiler shows the line from its start as long as
+//!   the range has room, and a range that is wider whole.
 use litrs_diagnostic::{Diagnostic, shown};
 use std::alloc::{AllocError, Global};
 use std::process::Abort;

@@ -1,4 +1,4 @@
--- The beginning of a text decides the only kind that it may have: a text that is not a literal of
+-- The beginning of a text decides the only kind that it may have. A text that is not a literal of
 -- that kind is not a literal at all, or is a bool.
 use Rattle.std.proofs.Common.{◌≡◌, ℕ, Bool, true, false, List, refl, sym, ap, ◌∙◌, ◌⊎◌, inl, inr, subst}
 use Rattle.std.specs.Prelude.{◌≢◌, codes, if◌then◌else◌}

@@ -45,9 +45,9 @@ tens_up d = if is_exponent_negative d.exponent then 0 else exponent_size d
 abbrev pub tens_down : FloatParts → ℕ
 tens_down d = places d + (if is_exponent_negative d.exponent then exponent_size d else 0)
 
--- The value of a float in a format, whatever its suffix: the float nearest to
--- significand * 10 ^ tens_up / 10 ^ tens_down, ties to even, and an infinity if it is too large.
--- `negative` says that a minus sign precedes the literal.
+-- The value of a float in a format, whatever its suffix. It is the float nearest to significand *
+-- 10 ^ tens_up / 10 ^ tens_down, ties to even, and an infinity if it is too large. `negative` says
+-- that a minus sign precedes the literal.
 abbrev pub float_value : Format → (negative : Bool) → FloatParts → Float
 float_value format negative d =
     round format negative (significand d * 10 ^ tens_up d) (10 ^ tens_down d)

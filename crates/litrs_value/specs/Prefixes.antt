@@ -11,8 +11,8 @@ use Rattle.litrs_value.specs.declared.value_type.ValueType.{ValueType}
 use Rattle.litrs_value.specs.declared.error.ValueError.{ValueError}
 use Rattle.litrs_value.specs.declared.error.ValueError.TheVariants.{Malformed, Memory}
 
--- The front of a text after its sign is the one that an error is about: what is meant as a literal
--- where no literal is at the front, or else the literal there.
+-- The front of a text after its sign is the one that an error is about. This is the literal there,
+-- or the malformed prefix if there is no literal.
 abbrev pub IsFrontFor : ValueError → (t front rest : List ℕ) → Type 0
 IsFrontFor (Malformed e) t front rest = HasNoPrefix t × IsMeant t front
 IsFrontFor Memory t front rest = ⊤

@@ -35,8 +35,8 @@ unsigned text = drop (sign_len text) text
 abbrev pub IsReadAs : List ℕ → Derivation → Type 0
 IsReadAs text d = IsLiteral (chars (unsigned text)) d
 
--- The text after a sign is not a literal, and both spans of the error count from the sign; or an
--- allocation failed for the value of the literal that it is.
+-- The text after a sign is not a literal, and both spans of the error count from the sign. Or it is
+-- one, and an allocation failed for its value.
 abbrev pub IsRefusedAfter : (negative : Bool) → List ℕ → ValueError → Type 0
 IsRefusedAfter negative t (Malformed e) = (r : ParseError) × IsRefused literal_parse t r
     × (refusal_of e ≡ shifted (if negative then 1 else 0) (refusal_of r))
@@ -44,8 +44,8 @@ IsRefusedAfter negative t (Malformed e) = (r : ParseError) × IsRefused literal_
 IsRefusedAfter negative t Memory = (d : Derivation) × IsLiteral t d × IsTrue (allocates d)
 IsRefusedAfter negative t e = ⊥
 
--- The error of a text without a value of the type: the text after the sign is not a literal, and
--- spans count from the start of the text; or the type has no value for the literal; or an
+-- The error of a text without a value of the type. The text after the sign is not a literal, and
+-- spans count from the start of the text. Or the type has no value for the literal, or an
 -- allocation failed.
 abbrev pub IsValueError : ValueType → List ℕ → ValueError → Type 0
 IsValueError type text (Malformed e) =

@@ -6,8 +6,8 @@ use crate::outcome::{Call, Outcome, agrees};
 use litrs_prefix::{MalformedPrefix, Prefix, parse_until};
 use std::alloc::Global;
 
-/// The fields of a row for the text before the delimiter, without the white space at its end, for
-/// the text from the delimiter on, and for the literal or the error.
+/// The fields of a row: the text before the delimiter, without the white space at its end, the text
+/// from the delimiter on, and the literal or the error.
 #[derive(Clone, Copy)]
 struct Fields<'a> {
     before: &'a str,

@@ -1,9 +1,10 @@
 //! Writes each line that is a literal in a standard form, with the same kind, value and suffix.
 //! Other lines are unchanged.
 //!
-//! Raw strings have the least number of hashes. Other literals are rewritten in one [`Style`]: with
-//! escapes only for characters that are not shown as they are, digits and exponents in lower case,
-//! and numbers that contain `_` in groups of three digits, or of four if the base is not ten.
+//! Raw strings have the least number of hashes. Other literals are rewritten in one [`Style`]. It
+//! has escapes only for characters that are not shown as they are, and digits and exponents in
+//! lower case. Numbers that contain `_` have groups of three digits, or of four if the base is not
+//! ten.
 #![tactic(auto)]
 
 ghost use Rattle.std.specs.Prelude.{◌≡◌, IfOk, MatchOption, string_bytes};

@@ -1,5 +1,5 @@
 //! Cuts a Rust source into tokens and writes one token a line: its kind, its place in bytes and its
-//! text, and for a malformed literal what is wrong with it.
+//! text. For a malformed literal it writes what is wrong with it.
 #![tactic(auto)]
 
 use litrs_lexer::{TokenKind, strip_shebang, tokenize};

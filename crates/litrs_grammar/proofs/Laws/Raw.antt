@@ -15,7 +15,7 @@ use Rattle.litrs_base.proofs.Runs.{prefix_len_all, all_from_prefix_len}
 use Rattle.litrs_base.proofs.Spans.{none_from}
 use Rattle.litrs_grammar.proofs.RawCuts.{length-hashes, hash_len-append, after_hashes, hash_cut, length_before-body, occurs-body, ClosingCut, closing_cut}
 
--- The rows after the opening quote, by three tests of the text: a character that the body may not
+-- The rows after the opening quote, by three tests of the text. A character that the body may not
 -- contain precedes the first closing; there is a closing; a suffix follows it.
 abbrev pub raw_body_rows : (place suffix_place : ℕ) (kind suffix_kind : ParseErrorKind) (refused closed suffix : Bool) → Option Refusal
 raw_body_rows place suffix_place kind suffix_kind refused closed suffix =

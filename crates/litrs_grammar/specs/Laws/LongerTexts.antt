@@ -89,8 +89,9 @@ LiteralsAreWritten = (t : List ℕ) (d : Derivation) →
 abbrev pub LiteralsParseBack : Type 0
 LiteralsParseBack = (d : Derivation) → AreParts d → IsOnlyDerivation (IsLiteral (literal_text d)) d
 
--- Two bodies between a front and a quote with a suffix are a quoted literal with the items of both,
--- unless the second starts with white space that a continuation at the end of the first would skip.
+-- Two bodies between a front and a quote with a suffix are a quoted literal with the items of both.
+-- The exception: the second starts with white space that a continuation at the end of the first
+-- would skip.
 abbrev pub JoinedBodiesAreQuoted : Type 0
 JoinedBodiesAreQuoted = (front : List ℕ) (w : Switches) (a b suffix : List ℕ)
     (items others : List Item) → IsBodyOf w a items → IsBodyOf w b others →
