@@ -146,8 +146,9 @@ impl<B: Text> Literal<B> {
     /// # Errors
     ///
     /// Returns `Empty`; the error of the kind that `input` starts like, for example
-    /// `UnexpectedChar` at 1..2 for `0 `; or `InvalidLiteral` if it starts like no kind. Returns
-    /// `OutOfMemory` without a span if `input` is a literal and the allocation of its value fails.
+    /// `UnexpectedChar` at 1..2 for `0 `; or `InvalidLiteral` if it does not start like any kind.
+    /// Returns `OutOfMemory` without a span if `input` is a literal and the allocation of its value
+    /// fails.
     // Inlined, like each parse: CONTRIBUTING says why.
     #[inline(always)]
     pub fn parse(alloc: Global, input: B) -> Result<Literal<B>, ParseError>
@@ -297,8 +298,8 @@ impl Literal<&str> {
     }
 }
 
-/// Returns the error of `text`, which starts like no literal. If it starts with `c`, that is the
-/// error of a C string.
+/// Returns the error of `text`, which does not start like any literal. If it starts with `c`, that
+/// is the error of a C string.
 fn other_refusal(text: &str) -> ParseErrorKind
     requires { IsFront Front.Other text.now }
     ensures { IsRefusal literal_parse (chars text.now) (without_span result) }

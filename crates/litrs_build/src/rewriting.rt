@@ -105,7 +105,7 @@ fn rewritten_text<B: Text>(
     }
 }
 
-/// Returns `true` only if `style` changes no literal of the kind of `lit`.
+/// Returns `true` only if `style` does not change any literal of the kind of `lit`.
 fn keeps<B: Text>(style: &Style, lit: &Literal<B>) -> bool
     ensures { result ≡ keeps style.now (derivation lit.now) }
 {

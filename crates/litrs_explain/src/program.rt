@@ -174,7 +174,7 @@ struct Run<'a> {
 }
 
 impl<'a> Run<'a> {
-    /// Creates a run over no source.
+    /// Creates a run without sources.
     fn new(rt: HostRuntime, options: Options, is_terminal: bool) -> Run<'a> {
         let output = Output::new(rt, is_terminal);
         Run {

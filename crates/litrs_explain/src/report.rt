@@ -230,6 +230,6 @@ fn is_other_text(literals: usize, errors: usize) -> bool
 
 /// Returns the number, or the greatest that 32 bits hold.
 fn narrowed(number: usize) -> u32 {
-    // bounded by the type: it is the number of a line or a column, and no amount of memory
+    // bounded by the type: it is the number of a line or a column, not an amount of memory
     u32::try_from(number).unwrap_or(u32::MAX)
 }

@@ -24,7 +24,7 @@ pub enum Front {
     Quoted(StringKind),
     /// The front of a raw string: `r`, `br` or `cr`.
     Raw(StringKind),
-    /// The text starts like no literal.
+    /// The text does not start like any literal.
     Other,
 }
 

@@ -98,7 +98,7 @@ pub(crate) fn first_plain_end<A: Allows>(input: &str, from: usize, allowed: A) -
 }
 
 /// Like [`first_plain_end`], but starts with the mask of an earlier search, and returns the new
-/// mask. A backslash at `from` costs no search.
+/// mask. A backslash at `from` does not cost a search.
 #[inline(always)]
 pub(crate) fn plain_end(input: &str, from: usize, allowed: Switches, mask: Mask) -> (usize, Mask)
     requires at { IsCharBoundary input.now from }

@@ -341,7 +341,7 @@ fn lines_of_held(held: &str) -> &str
 
 /// Returns `lit` as a step, with an owned text.
 ///
-/// Not inlined, so a line that is not a literal needs no room for an owned one.
+/// Not inlined, so a line that is not a literal does not need room for an owned one.
 #[inline(never)]
 fn literal_step(alloc: Global, lit: Literal<&str>) -> Result<Step, AllocError>
     ensures { IfOk result (IsLiteralStep lit.entry) }
@@ -407,10 +407,10 @@ fn hold_line(
     Ok(true)
 }
 
-/// Adds `line` to the held text and parses all of it, if it begins no literal with an LF after it.
-/// After an error the text is as before.
+/// Adds `line` to the held text and parses all of it, if it does not begin a literal with an LF
+/// after it. After an error the text is as before.
 ///
-/// Not inlined, so a line after which a string continues needs no room for a literal.
+/// Not inlined, so a line after which a string continues does not need room for a literal.
 #[inline(never)]
 fn read_added(held: &mut String, known: &mut Option<Open>, line: &str) -> Result<Step, AllocError>
     requires known { IsReadToLastLine (string_bytes held.old) known.old }

@@ -62,7 +62,7 @@ pub trait Output {
         ensures failed { RecordsFailure (has_failed self.old) (has_failed self.new) result }
         ensures write_failed { OnErr result (write_failed self.new ≡ true) };
 
-    /// Flushes the bytes that were written. Writes no byte itself.
+    /// Flushes the bytes that were written. Does not write a byte itself.
     fn flush(&mut self) -> Result<(), Failed>
         ensures bytes { Keeps (contents self.old) (contents self.new) }
         ensures flushed { OnOk result (is_flushed self.new ≡ true) }

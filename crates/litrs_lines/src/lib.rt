@@ -203,7 +203,7 @@ fn finish<O: Output>(line: &[u8], reporter: &mut Reporter<O>) -> Result<(), RunE
 /// next lines, all UTF-8, for which one of these holds:
 ///
 /// - Joined by LF they are a literal.
-/// - With an LF after them they begin no literal.
+/// - With an LF after them they do not begin a literal.
 /// - They are the last lines, or the line after them is not UTF-8.
 ///
 /// One group is held at a time, so the memory is in proportion to the longest group. The report on

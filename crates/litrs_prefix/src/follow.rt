@@ -114,8 +114,8 @@ fn gives_period(text: &str) -> bool
     }
 }
 
-/// Returns `true` if a period before `text` belongs to no number, as `text` starts with another
-/// period or with a name.
+/// Returns `true` if a period before `text` does not belong to a number, as `text` starts with
+/// another period or with a name.
 pub(crate) fn keeps_period(text: &str) -> bool
     ensures { result ≡ keeps_period (chars text.now) }
 {

@@ -28,7 +28,7 @@ pub fn continues_name(text: &str) -> bool
     }
 }
 
-/// Returns `true` if `text` has no character.
+/// Returns `true` if `text` is empty.
 pub fn is_empty(text: &str) -> bool
     ensures { result ≡ is_empty (chars text.now) }
 {

@@ -39,7 +39,7 @@ impl Span {
         Span { start, end }
     }
 
-    /// Returns the span of a token that comes from no source: 0..0.
+    /// Returns the span of a token that does not come from a source: 0..0.
     pub fn call_site() -> Span
         ensures { result ≡ call_site }
     {

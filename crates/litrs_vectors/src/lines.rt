@@ -172,7 +172,7 @@ fn try_step(alloc: Global, step: &Result<PrefixStep, AllocError>, answer: &str) 
 }
 
 /// Tries the calls that need no memory, of which no contract says so: a run over an empty input,
-/// and a first line that begins no literal.
+/// and a first line that does not begin a literal.
 pub fn try_unallocated(alloc: Global, text: &str) -> Outcome {
     // bounded by the constant `MARK`: the block marks where the calls begin, and is freed.
     let _ = String::with_capacity(alloc, MARK);

@@ -3,7 +3,7 @@ use crate::outcome::{Call, Outcome, agrees};
 use crate::{diagnostics, fronts, lines, literals, named, rewritings, until, values};
 use std::alloc::{AllocError, Global};
 
-/// A row that names no call, or that is not written by the rules.
+/// A row that does not name a call, or is not written by the rules.
 const ROW: Call = ("row", "read", "&str");
 
 /// Tries the row of a line.

@@ -33,8 +33,8 @@ pub(crate) struct Open {
     place: usize,
 }
 
-/// Returns the string that is open after `text` and an LF, or `None` if they begin no literal. If
-/// `known` is open in `text`, only what follows its place is read.
+/// Returns the string that is open after `text` and an LF, or `None` if they do not begin a
+/// literal. If `known` is open in `text`, only what follows its place is read.
 #[inline(always)]
 pub(crate) fn open_after(text: &str, known: Option<Open>) -> Option<Open>
     requires { IsKnown text.now known }
