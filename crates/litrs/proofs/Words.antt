@@ -65,7 +65,7 @@ word_decided bs seen e b u row same is =
     (is ∙ ap undispatched_goes_on same ∙ sym (undispatched-chars bs u))
     (back (undispatched_begins (chars bs) e (dispatch-chars bs u ∙ sym row)))
 
--- a word that begins with none of the letters begins none of the words
+-- a word that does not begin with one of the letters does not begin any of the words
 other_letter : (a b d e x y z w : Bool) → a || (b || (d || e)) ≡ false →
     (((a && x) || (b && y)) || (d && z)) || (e && w) ≡ false
 other_letter false false false false x y z w none = refl
@@ -148,7 +148,7 @@ other_first (b ∷ bs) some other =
     and_left (b == 99) _ (ne_eqb b 99 (λ same. both_ways _ other
     (ap (λ k. begins_with (codes "c") (k ∷ bs)) same)))
 
--- a text that begins with `c` begins no other word
+-- a text that begins with `c` does not begin another word
 c_word : (bs : List ℕ) → begins_with (codes "c") bs ≡ true → undispatched_goes_on bs ≡ false
 c_word [] begins = cc
 c_word (b ∷ bs) begins =

@@ -181,12 +181,12 @@ rewritten style (a_string d) = a_string (rewritten_string style d)
 rewritten style (a_byte_string d) = a_byte_string (rewritten_string style d)
 rewritten style (a_c_string d) = a_c_string (rewritten_string style d)
 
--- `true` iff a style with these escapes and lines changes nothing between quotes.
+-- `true` iff a style with these escapes and lines does not change anything between quotes.
 abbrev pub keeps_bodies : Escapes → Lines → Bool
 keeps_bodies escapes_kept lines_kept = true
 keeps_bodies _ _ = false
 
--- `true` only if the style changes no literal of the kind of this one.
+-- `true` only if the style does not change any literal of the kind of this one.
 abbrev pub keeps : Style → Derivation → Bool
 keeps style (a_bool b) = true
 keeps style (an_integer d) = keeps_integers style.digits style.groups

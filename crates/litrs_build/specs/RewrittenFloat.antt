@@ -70,7 +70,7 @@ abbrev pub rewritten_float : Style → FloatParts → FloatParts
 rewritten_float style d =
     regrouped_float style.exponents (part_lens style.float_groups (number_part d)) d
 
--- `true` iff a style with this case and these groups changes no float.
+-- `true` iff a style with this case and these groups does not change any float.
 abbrev pub keeps_floats : Option Case → FloatGroups → Bool
 keeps_floats None Kept = true
 keeps_floats _ _ = false

@@ -49,7 +49,7 @@ rewritten_integer style d = record {
   suffix = d.suffix;
 }
 
--- `true` iff a style with this case and these groups changes no integer.
+-- `true` iff a style with this case and these groups does not change any integer.
 abbrev pub keeps_integers : Option Case → Groups → Bool
 keeps_integers None Kept = true
 keeps_integers _ _ = false

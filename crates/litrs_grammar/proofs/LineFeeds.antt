@@ -1,4 +1,4 @@
--- Literals that contain no LF.
+-- Literals that do not contain LF.
 use Rattle.std.proofs.Common.{◌≡◌, ℕ, Bool, true, not, List, [], ◌∷◌, ◌++◌, refl, sym, ap, ◌∙◌, arith}
 use Rattle.std.specs.Prelude.{◌==◌}
 use Rattle.std.specs.List.{list_all}
@@ -26,7 +26,7 @@ digit_other c h = grind (arith, nat_tests)
 inner_other : (c : ℕ) → is_hex_or_underscore c ≡ true → is_other c ≡ true
 inner_other c h = grind (arith, nat_tests)
 
--- an escape contains no LF
+-- an escape does not contain LF
 pub escape_other : (w : Switches) (e : Escape) → is_escape w e ≡ true → list_all is_other (escape_text e) ≡ true
 escape_other w (simple_escape c) h = let p = and_parts (is_simple c) _ h in and_from _ _ (simple_other c p.0) refl
 escape_other w (hex_escape c d) h =
@@ -37,7 +37,7 @@ escape_other w (hex_escape c d) h =
 escape_other w (unicode_escape inner) h =
     list_all-append is_other inner (125 ∷ []) (list_all-weaken _ _ inner_other inner (inner_of w inner h).all) refl
 
--- a suffix contains no LF
+-- a suffix does not contain LF
 pub suffix_other : (t : List ℕ) → is_suffix t ≡ true → list_all is_other t ≡ true
 suffix_other t h = list_all-weaken _ _ (λ c g. ap not (not_line_feed c g)) t (suffix_continues t h)
 

@@ -65,7 +65,7 @@ hashes_before_quote (suc n) (c ∷ cs) t = ap (λ v. (35 == c) && v) (hashes_bef
 pub closing_before_closing : (n c : ℕ) (cs t : List ℕ) → begins_with (raw_closing n) ((c ∷ cs) ++ (34 ∷ t)) ≡ begins_with (raw_closing n) (c ∷ cs)
 closing_before_closing n c cs t = ap (λ v. (34 == c) && v) (hashes_before_quote n cs t)
 
--- the first closing after a body that contains no closing
+-- the first closing after a body that does not contain a closing
 pub length_before-body : (n : ℕ) (body t : List ℕ) → occurs (raw_closing n) body ≡ false → length_before (raw_closing n) (body ++ (raw_closing n ++ t)) ≡ length body
 length_before-body n [] t none = ap (λ v. cond v 0 (1 + length_before (raw_closing n) (hashes n ++ t))) (begins_with-append (raw_closing n) t)
 length_before-body n (c ∷ cs) t none =

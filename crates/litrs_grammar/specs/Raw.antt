@@ -38,8 +38,8 @@ abbrev pub occurs : List ℕ → List ℕ → Bool
 occurs part [] = is_empty part
 occurs part (c ∷ cs) = begins_with part (c ∷ cs) || occurs part cs
 
--- A raw body contains no CR. That of a byte string contains only ASCII, and that of a C string no
--- NUL. A backslash is an ordinary character.
+-- A raw body does not contain CR. That of a byte string contains only ASCII, and that of a C string
+-- no NUL. A backslash is an ordinary character.
 abbrev pub is_raw_char : (unicode allow_nul : Bool) → ℕ → Bool
 is_raw_char unicode allow_nul c =
     not (c == carriage_return) && (fits_charset unicode c && nul_is_allowed allow_nul c)

@@ -49,7 +49,7 @@ only_underscore : (base n : ℕ) → n * base ^ 0 + place_sum base [] ≡ n
 unfolding place_sum
 only_underscore base n = let one : base ^ 0 ≡ 1 = pow-zero base in ap (λ power. n * power + 0) one ∙ omega arith
 
--- an underscore changes nothing, and a digit moves the others up by one place
+-- an underscore does not change the value, and a digit moves the others up by one place
 pub numeral_underscore : (base : ℕ) (t : List ℕ) (i : ℕ) → i < length t → get_or t i 0 ≡ 95 → numeral base (take (i + 1) t) ≡ numeral base (take i t)
 numeral_underscore base t i h e =
     ap (numeral base) (take_more t i 0 h) ∙ (numeral-append base (take i t) (get_or t i 0 ∷ [])

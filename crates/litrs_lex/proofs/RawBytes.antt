@@ -129,7 +129,7 @@ closing_is_ascii n = hashes_are_ascii n
     hashes_are_ascii zero = refl
     hashes_are_ascii (suc n) = hashes_are_ascii n
 
--- a quote that closes nothing
+-- a quote that does not close the body
 passed_quote : (u a : Bool) (n : ℕ) (t bs : List ℕ) → IsUtf8 (34 ∷ bs) → IsPastBody u a n t (chars (34 ∷ bs)) → begins_with (raw_closing n) (34 ∷ bs) ≡ false → IsPastBody u a n t (chars bs)
 passed_quote u a n t bs utf8 s none =
     let one : chars (34 ∷ bs) ≡ 34 ∷ chars bs = chars_ascii 34 bs (omega arith) in
@@ -171,7 +171,7 @@ after_first u a n start place bytes (b ∷ r) is within utf8 s inner =
       passed = subst (λ (l : List ℕ). IsPastBody u a n (chars (drop start bytes)) (chars l)) (sym there) (passed_quote u a n (chars (drop start bytes)) r text passed none);
     }
 
--- after a quote that closes nothing
+-- after a quote that does not close the body
 pub after_quote : (u a : Bool) (n start place : ℕ) (bytes : List ℕ) → IsStop u a n start bytes place →
     (first_passes is_quote (drop place bytes) && not (begins_with (raw_closing n) (drop place bytes))) ≡ true → After u a n start place bytes
 after_quote u a n start place bytes s inner = after_first u a n start place bytes (drop place bytes) refl s.within s.utf8 s.passed inner

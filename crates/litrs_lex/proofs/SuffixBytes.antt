@@ -72,7 +72,7 @@ continues_after (b ∷ bs) u = continues_step b bs (is_word b) refl u (continues
 pub nothing_continues : (bs : List ℕ) (n : ℕ) → length bs ≤ n → list_all is_xid_continue (chars (drop n bs)) ≡ true
 nothing_continues bs n past = ap (λ t. list_all is_xid_continue (chars t)) (drop_all n bs past) ∙ ap (list_all is_xid_continue) chars-nil
 
--- an ASCII byte after them continues nothing
+-- an ASCII byte after them does not continue the suffix
 stops_at_ascii : (b : ℕ) (bs : List ℕ) → b < 128 → is_word b ≡ false → list_all is_xid_continue (chars (b ∷ bs)) ≡ false
 stops_at_ascii b bs low fails =
     ap (list_all is_xid_continue) (chars_ascii b bs low) ∙ ap (λ v. v && list_all is_xid_continue (chars bs)) (word_continues b low ∙ fails)

@@ -1,4 +1,5 @@
--- Block comments: what opens and closes none may be passed over, and how a step changes what is open.
+-- Block comments: characters that neither open nor close one may be passed over, and each step
+-- changes the number of open ones.
 use Rattle.std.proofs.Common.{◌≡◌, ℕ, zero, suc, Bool, true, false, not, List, [], ◌∷◌, Some, None, refl, sym, ap, ◌∙◌}
 use Rattle.std.specs.Prelude.{if◌then◌else◌, ◌==◌, ◌&&◌, ◌||◌}
 use Rattle.std.proofs.lemmas.Bool.{eqb-true, and_parts}
@@ -15,7 +16,7 @@ pub step_open : (n c d : ℕ) (t : List ℕ) → opens_comment c d ≡ true → 
 step_open zero c d t a = rw a refl
 step_open (suc n) c d t a = rw a refl
 
--- what closes a comment opens none
+-- a mark that closes a comment does not open one
 closes_only : (c d : ℕ) → closes_comment c d ≡ true → opens_comment c d ≡ false
 closes_only c d h = rw (eqb-true c 42 (and_parts (c == star) (d == slash) h).0) refl
 

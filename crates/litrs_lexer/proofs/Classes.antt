@@ -49,7 +49,7 @@ class (c ∷ t) =
     then name_class (first_passes is_quote_or_hash (after_name (c ∷ t))) (begins_raw_name (c ∷ t)) (opens_quoted (c ∷ t)) (is_bool (first_name (c ∷ t)))
     else other_class (is_white_space c) (is_ascii_digit c) (c == 34) (c == 39) (c == 47) (is_punctuation c) t
 
--- what begins no name
+-- characters that do not begin a name
 
 pub both_no : (b : Bool) → b ≡ true → b ≡ false → ⊥
 both_no b h g = true≢false (sym h ∙ g)
@@ -189,7 +189,7 @@ opens_mark c t name how =
       | inr (inr (inr (inr (inr e)))) ↦ c_mark t (and_parts _ _ e).1
     ]
 
--- a raw identifier opens no literal
+-- a raw identifier does not begin a literal
 
 name_no_raw : (t : List ℕ) → begins_name t ≡ true → opens_raw t ≡ false
 name_no_raw [] h = absurd (false≢true h)

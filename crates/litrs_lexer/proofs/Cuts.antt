@@ -165,7 +165,7 @@ prefix_opens c t h =
     and_true true = refl
     and_true false = refl
 
--- a name that begins with another letter opens no literal but a bool
+-- a name that begins with another letter does not begin a literal, except a bool
 pub no_prefix_opens : (c : ℕ) (t : List ℕ) → starts_identifier c ≡ true → begins_prefix c ≡ false → opens_quoted (c ∷ t) ≡ false
 no_prefix_opens c t name other =
     let digit : is_ascii_digit c ≡ false = false_from_ne_true (is_ascii_digit c) (λ e. true≢false (sym name ∙ digit_starts_none c e)) in

@@ -114,7 +114,7 @@ literal_finishes held line d none text is = record {
   report = inl (d, is, refl);
 }
 
--- a line that is refused, and begins no literal with an LF after it
+-- a line that is refused, and does not begin a literal with an LF after it
 pub refusal_finishes : (held line : List ℕ) (e : ParseError) → held ≡ [] → IsUtf8 line → IsRefused literal_parse (chars line) e → (BeginsByLine (held ++ line) → ⊥) →
     Finishes held line (refusal_report (refusal_of e))
 refusal_finishes held line e none text refused shut = record {

@@ -555,7 +555,7 @@ kept_by_test : (b : ℕ) (short long : List ℕ) (test : Bool) → (b == 13) ≡
 kept_by_test b short long true is other = absurd (other (eqb-true b 13 is))
 kept_by_test b short long false is other = refl
 
--- without a CR at the end nothing is left out
+-- without a CR at the end, nothing is left out
 kept : (bytes : List ℕ) → NoCr (slice_index bytes (length bytes - 1)) → strip_cr bytes ≡ bytes
 kept bytes other = kept_by_test (slice_index bytes (length bytes - 1)) (take (length bytes - 1) bytes) bytes (slice_index bytes (length bytes - 1) == 13) refl other
 

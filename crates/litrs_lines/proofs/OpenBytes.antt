@@ -330,7 +330,7 @@ record IsRawRest (kind : StringKind) (n : ℕ) (bytes : List ℕ) (front : List 
   passed : occurs (raw_closing n) front ≡ false
   unclosed : (more : List ℕ) → occurs (raw_closing n) more ≡ false → occurs (raw_closing n) (body ++ more) ≡ false
 
--- a text that a search has passed to its end contains no closing
+-- a text that a search has passed to its end does not contain a closing
 unclosed_front : (n : ℕ) (front : List ℕ) → NoClosingIn n front [] → occurs (raw_closing n) front ≡ false
 unclosed_front n front none = ap (occurs (raw_closing n)) (sym (append-nil front)) ∙ (raw_scans_go_on n front [] none).1
 

@@ -217,7 +217,7 @@ quoted_is_open kind t items rest spells taken shape =
       quoted_begins kind (t ++ 10 ∷ []) line.items line.rest line.spells line.taken line.shape,
     )
 
--- a rest that is shut: with an LF after it the text begins none
+-- a rest that is shut: with an LF after it, the text does not begin a literal
 pub quoted_is_shut : (kind : StringKind) (t : List ℕ) (items : List Item) (rest : List ℕ) → quoted_front kind ++ (body_text items ++ rest) ≡ t →
     is_item_list (switches_of kind) rest items ≡ true → IsShut (switches_of kind) rest → Begins literal_parse (t ++ 10 ∷ []) → ⊥
 quoted_is_shut kind t items rest spells taken (e, told, shut) begins =

@@ -135,7 +135,7 @@ integer_at t h name period =
       },
     )
 
--- without a period, or before one that belongs to no number
+-- without a period, or before one that does not belong to a number
 
 pub no_period : (t : List ℕ) → first_passes is_period t ≡ false → gives_period t ≡ false
 no_period [] h = refl

@@ -133,7 +133,7 @@ rows-invalid_byte_literal_start = (refl, refl)
 rows-unterminated_char_literal :
     CharRefused "'" (without_span kind.UnterminatedCharLiteral)
     × CharRefused "'a" (without_span kind.UnterminatedCharLiteral)
-    -- an escaped quote closes nothing
+    -- an escaped quote does not close anything
     × CharRefused "'\\'" (without_span kind.UnterminatedCharLiteral)
     × CharRefused "'\\x41" (without_span kind.UnterminatedCharLiteral)
     × CharRefused "'\\n" (without_span kind.UnterminatedCharLiteral)

@@ -255,7 +255,7 @@ read_escape w (c ∷ t) h =
     let a = none_from ((c == 48) && not w.allow_nul) _ _ h in
     read_letter w c t (c == 120) (c == 117) refl refl a.0 _ a.1
 
--- an escape contains no closing brace between its braces
+-- an escape does not contain a closing brace between its braces
 pub unicode_parts : (w : Switches) (inner : List ℕ) → is_escape w (unicode_escape inner) ≡ true → list_all (λ c. not (c == 125)) inner ≡ true
 unicode_parts w inner h = list_all-weaken _ _ not_brace inner (inner_of w inner h).all
 

@@ -43,6 +43,6 @@ bool_other : (b : Bool) → list_all is_other (bool_text b) ≡ true
 bool_other true = refl
 bool_other false = refl
 
--- a bool contains no LF, so no text that begins one ends with LF
+-- a bool does not contain LF, so no text that begins one ends with LF
 pub bool_line_end : (t : List ℕ) → EndsBy IsBool (t ++ 10 ∷ [])
 bool_line_end t x b is = no_line_feed t x (ap (list_all is_other) (sym is) ∙ bool_other b)

@@ -284,7 +284,7 @@ item_other kind (plain_char c) is =
     let q = and_parts _ (not (is_special_whitespace c)) p.0 in
     and_from _ _ (ap not (or_parts (c == 10) (c == 9) (or_parts ((c == 10) || (c == 9)) (c == 13) (not-true _ q.1)).0).0) refl
 
--- a char or byte contains no LF, so no text that begins one ends with LF
+-- a char or byte does not contain LF, so no text that begins one ends with LF
 pub no_char_line_end : (kind : CharKind) (t : List ℕ) → EndsBy (IsCharLiteral kind) (t ++ 10 ∷ [])
 no_char_line_end kind t more d lit =
     no_line_feed t more (subst (λ l. list_all is_other l ≡ true) lit.spells

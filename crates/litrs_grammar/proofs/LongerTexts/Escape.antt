@@ -262,7 +262,7 @@ no_length : (t : List ℕ) → length t ≡ 0 → t ≡ []
 no_length [] h = refl
 no_length (c ∷ t) h = absurd (omega arith)
 
--- underscores at the end change nothing
+-- underscores at the end do not change anything
 value_same : (s z : List ℕ) → list_all is_hex_or_underscore z ≡ true → digits z ≡ 0 → hex_value (s ++ z) ≡ hex_value s
 value_same s z h n =
     let none : filter is_no_underscore z ≡ [] = no_length _ (kept_length z h ∙ n) in

@@ -305,7 +305,7 @@ no_open_row t = search (shut_number, shut_if, shut_suffix)
 pub float_not_open : (t : List ℕ) (r : Refusal) → float_refusal t ≡ Some r → is_open r.kind ≡ false
 float_not_open t r h = sym (ap is_open_row h) ∙ no_open_row t
 
--- a float contains no LF, so no text that begins one ends with LF
+-- a float does not contain LF, so no text that begins one ends with LF
 pub float_line_end : (t : List ℕ) → EndsBy IsFloatOf (t ++ 10 ∷ [])
 float_line_end t more d float =
     let number : list_all is_other (number_part d) ≡ true =

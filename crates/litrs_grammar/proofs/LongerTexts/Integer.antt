@@ -211,7 +211,7 @@ prefix_other Octal = refl
 prefix_other Decimal = refl
 prefix_other Hexadecimal = refl
 
--- an integer contains no LF, so no text that begins one ends with LF
+-- an integer does not contain LF, so no text that begins one ends with LF
 pub integer_line_end : (t : List ℕ) → EndsBy IsIntegerOf (t ++ 10 ∷ [])
 integer_line_end t x d reads =
     no_line_feed t x (subst (λ l. list_all is_other l ≡ true) reads.spells

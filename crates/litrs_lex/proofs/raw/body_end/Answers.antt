@@ -1,4 +1,5 @@
--- Each turn goes past a quote that closes nothing, to the next byte that the search stops at.
+-- Each turn goes past a quote that does not close the body, to the next byte that the search stops
+-- at.
 use Rattle.std.proofs.Common.{◌≡◌, ◌+◌, ◌-◌, ℕ, Bool, not, ◌&&◌, List, length, take, drop, refl, sym, ap, ◌∙◌, arith}
 use Rattle.litrs_base.specs.Text.{first_passes, begins_with}
 use Rattle.litrs_grammar.specs.Raw.{is_quote, raw_closing}

@@ -1,4 +1,4 @@
--- The search has come past the quotes that close nothing, to a byte that it stops at.
+-- The search has come past the quotes that do not close the body, to a byte that it stops at.
 use Rattle.std.proofs.Common.{◌-◌, ◌≤◌, length}
 use Rattle.litrs_lex.specs.Mask.{IsMaskOf}
 use Rattle.litrs_lex.specs.RawCut.{IsStop, raw_special}

@@ -1,4 +1,5 @@
--- Each step passes over what changes nothing, and takes what opens or closes a comment.
+-- Each step passes over characters that do not change anything, and takes a mark that opens or
+-- closes a comment.
 use Rattle.std.proofs.Common.{◌≡◌, ℕ, suc, ◌+◌, ◌-◌, ◌<◌, ◌≤◌, List, [], ◌∷◌, length, sym, ap, ◌∙◌, true, false, arith}
 use Rattle.std.specs.Str.{chars}
 use Rattle.litrs_prefix.proofs.Ends.{shorter, after_first, end_of_end, not_longer}

@@ -1,4 +1,4 @@
--- Numbers, and characters that begin no token.
+-- Numbers, and characters that do not begin a token.
 use Rattle.std.proofs.Common.{sym, ap, ◌∙◌}
 use Rattle.std.specs.Str.{chars}
 use Rattle.std.proofs.lemmas.Bool.{ne_eqb}

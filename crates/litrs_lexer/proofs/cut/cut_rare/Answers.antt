@@ -1,4 +1,4 @@
--- Characters that begin no token.
+-- Characters that do not begin a token.
 use Rattle.std.proofs.Common.{sym, ◌∙◌}
 use Rattle.litrs_lexer.specs.declared.kind.TokenKind.TheVariants.{Unknown}
 use Rattle.litrs_prefix.proofs.Ends.{all}

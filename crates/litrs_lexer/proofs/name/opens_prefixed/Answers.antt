@@ -1,4 +1,4 @@
--- A name that begins with another letter opens no literal but a bool.
+-- A name that begins with another letter does not begin a literal, except a bool.
 use Rattle.std.proofs.Common.{sym, ap, ◌∙◌}
 use Rattle.std.specs.Str.{chars}
 use Rattle.litrs_prefix.specs.Opens.{opens}

@@ -1,4 +1,4 @@
--- A fraction follows the period, or it belongs to no number, or it ends one.
+-- A fraction follows the period, or it does not belong to a number, or it ends one.
 use Rattle.std.proofs.Common.{◌≡◌, ◌∷◌, true, false, refl, sym, ap, ◌∙◌}
 use Rattle.std.specs.Char.{is_ascii_digit}
 use Rattle.std.specs.Str.{chars}

@@ -1,4 +1,4 @@
--- A longer word, or another first letter, begins no word.
+-- A longer word, or another first letter, does not begin a word.
 use Rattle.std.proofs.Common.{sym, ◌∙◌, arith}
 use Rattle.litrs.proofs.Words.{long_word, other_word}
 use Rattle.litrs.proofs.going_on.word.is_prefix_of_a_front.Goals as goal
