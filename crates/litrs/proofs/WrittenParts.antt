@@ -42,7 +42,7 @@ pub numeral_stays : (base : ℕ) (s t : List ℕ) → HaveSameDigits s t → num
 numeral_stays base s t same =
     sym (lower_sum base (filter is_no_underscore s)) ∙ (ap (place_sum base) same ∙ lower_sum base (filter is_no_underscore t))
 
--- prefix, digits and suffix: where they are those of an integer, the suffix among them
+-- prefix, digits and suffix: if they are those of an integer, the suffix among them
 pub integer_of_parts : (d : IntegerParts) → IsInteger d → IsOnlyDerivation (IsLiteral (integer_text d)) (an_integer d)
 integer_of_parts d parts = literals_parse_back (an_integer d) parts
 

@@ -163,7 +163,7 @@ char_span_on t x e = on e.span e.char_end
     on None place inside is = tt
     on (Some span) place inside is = char_end_on t x span.end place inside.within is
 
--- the refusal of what follows a front may be moved by it, where the text is not too long
+-- the refusal of what follows a front may be moved by it, if the text is not too long
 pub moves_within : (front t : List ℕ) (e : ParseError) → IsInText (front ++ t) (shifted (byte_len front) (refusal_of e)) → HasCharSpan t e → byte_len (front ++ t) < 2 ^ 64 →
     MovesWithin (byte_len front) e
 moves_within front t e inside is small = within e.span e.char_end inside is
@@ -178,7 +178,7 @@ moves_within front t e inside is small = within e.span e.char_end inside is
         let e : span ≡ x = cc in
         subst (λ (y : Range ℕ). (y.start + byte_len front < 2 ^ 64) × (y.end + byte_len front < 2 ^ 64) × (place + byte_len front < 2 ^ 64)) e (omega arith, omega arith, omega arith)
 
--- what is to be marked of a text: where a span points at characters of it, its bytes may be cut there
+-- the part of a text to mark: if a span points at characters of it, its bytes may be cut there
 pub points_cut : (bs : List ℕ) (span : Range ℕ) → IsUtf8 bs → PointsAtCharacters (chars bs) span → IsCutBy bs span
 points_cut bs span utf8 at =
     let same : encode_utf8_all (chars bs) ≡ bs = encodes-chars bs utf8 in

@@ -21,7 +21,7 @@ first_char_of b bs (c ∷ cs) u spelled = (c, cs, sym (chars_from_encodes (c ∷
 first_char : (b : ℕ) (bs : List ℕ) → IsUtf8 (b ∷ bs) → Splits (b ∷ bs)
 first_char b bs u = first_char_of b bs u.0 u u.1.1
 
--- a text is ASCII where a test says so, which computes on a text that is written out
+-- a text is ASCII if a test says so, which computes on a text that is written out
 pub ascii_by_test : (xs : List ℕ) → list_all (λ c. ltb c 128) xs ≡ true → IsAscii xs
 ascii_by_test [] h = IsAscii-nil
 ascii_by_test (c ∷ xs) h = let parts = and_parts (ltb c 128) (list_all (λ d. ltb d 128) xs) h in

@@ -21,7 +21,7 @@ only_is_one only = apart only.0
 only_is_alone : ¬ IsOnlyDerivation (λ (n : ℕ). n ≡ n) 3
 only_is_alone only = apart (only.1 2 refl)
 
--- there is one where 3 is one
+-- there is one if 3 is one
 none_is_none : ¬ HasNoDerivation (λ (n : ℕ). n ≡ 3)
 none_is_none none = none 3 refl
 

@@ -7,7 +7,7 @@ use Rattle.std.proofs.lemmas.List.{take_at, take_all}
 use Rattle.litrs_base.proofs.Runs.{prefix_len_all}
 use Rattle.std.proofs.lemmas.List.Sums.{take_while-cons}
 
--- no row fits where each test turns out so
+-- no row fits if each test turns out so
 pub none_if : {A : Type 0} (b : Bool) (x : A) (y : Option A) → b ≡ false → y ≡ None → (if b then Some x else y) ≡ None
 none_if true x y h e = cc
 none_if false x y h e = e

@@ -1,4 +1,4 @@
--- A text that is a literal is refused only where an allocation failed.
+-- A text that is a literal is refused only if an allocation failed.
 use Rattle.std.proofs.Common.{◌≡◌, ℕ, List, ap, inl, inr}
 use Rattle.litrs_base.specs.declared.err.ParseError.{ParseError}
 use Rattle.litrs_base.specs.declared.err.ParseErrorKind.TheVariants.{OutOfMemory}

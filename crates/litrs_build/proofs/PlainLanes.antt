@@ -7,7 +7,7 @@ use lib.Bits.{bit_or}
 use lib.Lanes.{zip2, mask_l, top, Each1}
 use Rattle.litrs_build.specs.Pieces.{is_plain}
 
--- lanes that are 255 where a test holds and 0 elsewhere
+-- lanes that are 255 if a test holds and 0 otherwise
 abbrev mark : Bool → ℕ
 mark b = cond b 255 0
 

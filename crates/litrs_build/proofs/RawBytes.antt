@@ -1,4 +1,4 @@
--- Raw byte strings: where all bytes are ASCII they are their own characters.
+-- Raw byte strings: if all bytes are ASCII they are their own characters.
 use Rattle.std.proofs.Common.{◌≡◌, ℕ, Bool, true, false, not, ◌&&◌, cond, eqb, List, [], ◌∷◌, refl, sym, ap, subst, ◌∙◌, arith}
 use Rattle.std.specs.Prelude.{Some, None, nat_le}
 use Rattle.std.specs.Char.{encode_utf8}

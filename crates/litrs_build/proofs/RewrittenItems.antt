@@ -97,7 +97,7 @@ spelled_escape w before (unicode_escape inner) is =
 
 -- A property of each possible rewriting of an item is a property of its rewriting
 
--- a continuation stays only where lines are kept
+-- a continuation stays only if lines are kept
 abbrev KeepsLines : Style → Item → Type 0
 KeepsLines style (plain_item c) = Unit {0}
 KeepsLines style (escape_item e) = Unit {0}

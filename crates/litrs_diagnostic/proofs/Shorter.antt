@@ -1,4 +1,4 @@
--- A text that is cut off at one end has fewer characters where it has fewer bytes.
+-- A text that is cut off at one end has fewer characters if it has fewer bytes.
 use Rattle.std.proofs.Common.{◌≡◌, ◌<◌, ◌+◌, ℕ, nat_lt, List, [], ◌∷◌, ◌++◌, length, take, drop, refl, sym, ap, subst, ◌∙◌, arith, length-append, lt-ltb, le-ltb}
 use Rattle.std.specs.Str.{chars, IsUtf8, IsCharBoundary, encode_utf8_all}
 use Rattle.std.proofs.lemmas.List.{take_at, drop_at}

@@ -1,4 +1,4 @@
--- The first and the last line of a text, where its LFs are known.
+-- The first and the last line of a text, if its LFs are known.
 use Rattle.std.proofs.Common.{◌≡◌, ◌≢◌, ◌<◌, ◌+◌, ◌-◌, ℕ, Bool, true, false, ◌&&◌, ◌||◌, cond, eqb, List, [], ◌∷◌, ◌++◌, length, count_by, refl, ap, inl, inr, true≢false, ne_eqb, arith}
 use Rattle.std.proofs.lemmas.Bool.{cases_Bool}
 use Rattle.std.proofs.lemmas.List.Sums.{sum_by-append}

@@ -41,7 +41,7 @@ level_color Warning = BoldYellow
 level_color Note = BoldGreen
 level_color Help = BoldCyan
 
--- The characters that are not part of a code, where the first one is in a code if `is_code`.
+-- The characters that are not part of a code. The first one is in a code iff `is_code`.
 unfoldable pub outside_codes : (is_code : Bool) → List ℕ → List ℕ
 outside_codes is_code [] = []
 outside_codes true (c ∷ t) = outside_codes (not (c == 109)) t

@@ -1,4 +1,4 @@
--- A literal that is built of the value of another one, without a suffix: it fails only where an
+-- A literal that is built of the value of another one, without a suffix: it fails only if an
 -- allocation does, and between its quotes all is printable.
 use Rattle.std.proofs.Common.{◌≡◌, ℕ, ◌<◌, true, false, List, [], ◌∷◌, get_or, refl, ap, subst}
 use Rattle.std.specs.Prelude.{Option, None}

@@ -49,12 +49,12 @@ field name part = codes "  " ++ (name ++ (codes " " ++ (part ++ codes "\n")))
 abbrev pub value_field : (literal : List ℕ) → List ℕ
 value_field literal = field (codes "value") (encode_utf8_all literal)
 
--- the line on a part, or none where the part is empty
+-- the line on a part, or none if the part is empty
 abbrev pub field_of_part : (name part : List ℕ) → List ℕ
 field_of_part name [] = []
 field_of_part name part = field name part
 
--- a number in decimal, where 128 bits hold it
+-- a number in decimal, if 128 bits hold it
 abbrev pub integer_text : ℕ → List ℕ
 integer_text n = if nat_le n (greatest_of U128) then decimal n else codes "2^128 or more"
 
@@ -63,7 +63,7 @@ abbrev pub integer_types : List IntegerType
 integer_types =
     U8 ∷ U16 ∷ U32 ∷ U64 ∷ U128 ∷ Usize ∷ I8 ∷ I16 ∷ I32 ∷ I64 ∷ I128 ∷ Isize ∷ []
 
--- a blank and the name of the type, where it has the number
+-- a blank and the name of the type, if it has the number
 abbrev pub name_where_fits : ℕ → IntegerType → List ℕ
 name_where_fits n ty = if nat_le n (greatest_of ty) then codes " " ++ type_name ty else []
 

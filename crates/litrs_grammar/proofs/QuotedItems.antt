@@ -84,7 +84,7 @@ same_item w (continuation a) (continuation b) x y h g k l same =
 abbrev pub NoItem : Switches → List ℕ → Type 0
 NoItem w x = (a : Item) (after : List ℕ) → is_item w a ≡ true → is_complete_before after a ≡ true → item_text a ++ after ≡ x → ⊥
 
--- a text is divided in at most one way into items and a rest where none follows
+-- a text is divided in at most one way into items and a rest if none follows
 pub same_items : (w : Switches) (L M : List Item) (x y : List ℕ) → is_item_list w x L ≡ true → is_item_list w y M ≡ true → NoItem w x → NoItem w y →
     body_text L ++ x ≡ body_text M ++ y → (L ≡ M) × (x ≡ y)
 same_items w [] [] x y h g ends ends' same = (refl, same)

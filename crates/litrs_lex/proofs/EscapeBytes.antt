@@ -102,7 +102,7 @@ err_refused w t (Err e) begins refused = escape_is_refused w t e begins refused.
 
 -- The backslash and what follows it
 
--- the first byte is the backslash where the first character is
+-- the first byte is the backslash if the first character is
 pub begins_bytes : (bs : List ℕ) → IsUtf8 bs → (is_empty (chars bs) || first_passes (λ c. c == 92) (chars bs)) ≡ true → 1 ≤ length bs → bs ≡ 92 ∷ drop 1 bs
 begins_bytes [] u begins some = absurd (omega arith)
 begins_bytes (b ∷ bs) u begins some =
@@ -311,7 +311,7 @@ after_two a b r on = (omega (arith, on.0), λ within. on.1 (omega arith))
 before_two : (a b : ℕ) (r : List ℕ) → IsCharBoundary r 2 → IsCharBoundary (a ∷ b ∷ r) 4
 before_two a b r on = (omega (arith, on.0), λ within. on.1 (omega arith))
 
--- the first character is a hex digit where the first byte is, and so is the second
+-- the first character is a hex digit if the first byte is, and so is the second
 first_at : (t : List ℕ) → is_ascii_hexdigit (get_or t 0 0) ≡ first_passes is_ascii_hexdigit t
 first_at [] = refl
 first_at (c ∷ t) = refl

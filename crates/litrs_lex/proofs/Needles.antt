@@ -8,7 +8,7 @@ use lib.Lanes.{zip2, mask_l, top, Each1}
 use Rattle.litrs_lex.specs.declared.search.Special.{Special}
 use Rattle.litrs_lex.specs.Special.{is_special}
 
--- lanes that are 255 where a test holds and 0 elsewhere, and the mask of them
+-- lanes that are 255 if a test holds and 0 otherwise, and the mask of them
 abbrev mark : Bool → ℕ
 mark b = cond b 255 0
 

@@ -44,7 +44,7 @@ pub refused_by_kind : (bs : List ℕ) (v : Bool) (e : ParseError) → IsUtf8 bs 
     IsRefused (kind_parse (if v then float_literal else integer_literal)) (chars bs) e → IsRefused (kind_parse (number_kind (chars bs))) (chars bs) e
 refused_by_kind bs v e u is refused = subst (λ (k : LiteralKind). IsRefused (kind_parse k) (chars bs) e) (sym (kind_by_bytes bs v u is)) refused
 
--- where the base is ten, the cut is after the leading run
+-- if the base is ten, the cut is after the leading run
 pub decimal_run : (cut : IntegerCut) (bs : List ℕ) → IsDigitsCut cut bs → cut.base ≡ Decimal → cut.end_main ≡ prefix_len (is_digit_or_underscore Decimal) bs
 decimal_run cut bs h ten =
     let start : cut.start_main ≡ 0 = h.start ∙ ap (λ b. length (prefix b)) ten in

@@ -129,7 +129,7 @@ from_offset w bytes offset place h u start read =
 
 -- The cut
 
--- a value is shorter than its body exactly where the body has a backslash
+-- a value is shorter than its body if and only if the body has a backslash
 size_test : (w : Switches) (items : List Item) (v n : ℕ) → is_body w items ≡ true → v ≡ length (body_value items) → n ≡ byte_len (body_text items) →
     not (v == n) ≡ has_backslash (body_text items)
 size_test w items v n body is_value is_text =

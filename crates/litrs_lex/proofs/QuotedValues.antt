@@ -25,7 +25,7 @@ use Rattle.litrs_lex.proofs.QuotedCuts.{cut_of, refused_of, refuses}
 use Rattle.litrs_lex.proofs.Readings.{read_none, read_run}
 use Rattle.litrs_lex.proofs.Sinks.{room_of}
 
--- where the text is a literal, the items read are its own
+-- if the text is a literal, the items read are its own
 value_by : (w : Switches) (bytes : List ℕ) (offset place : ℕ) (h : List ℕ → Type 0) (q : QuotedParts) (o : Option Refusal) → (b : IsReadBody w bytes offset h place) →
     IsQuoted (chars (take offset bytes)) w (chars bytes) q → item_refusal w (chars (drop place bytes)) ≡ o → body_value b.read.items ≡ body_value q.items
 value_by w bytes offset place h q None b is free =
@@ -171,7 +171,7 @@ plain_refused w bytes rest offset place e u small at run is told =
     refuses w bytes rest offset place _ e u small (plain_read w bytes offset place u at run) is
     (told w (subst (λ (l : List ℕ). first_passes (is_plain w) (chars l) ≡ false) (sym is) run.stops))
 
--- The items read so far are a body of their own, whose value is UTF-8 where byte escapes are off
+-- The items read so far are a body of their own, whose value is UTF-8 if byte escapes are off
 
 alone : (a : Item) (x rest : List ℕ) → is_complete_before (x ++ rest) a ≡ true → takes_all_blanks a x ≡ true
 alone (plain_item c) x rest h = refl

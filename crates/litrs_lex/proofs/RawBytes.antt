@@ -358,7 +358,7 @@ opening_is u a start bs utf8 =
 some_char : (b : ℕ) (r : List ℕ) → IsUtf8 (b ∷ r) → is_empty (chars (b ∷ r)) ≡ false
 some_char b r utf8 = chars_empty (b ∷ r) utf8 ∙ ne_eqb (suc (length r)) 0 (λ e. omega arith)
 
--- what is known where a byte is after the hashes
+-- facts if a byte is after the hashes
 record Opening (bs : List ℕ) (b : ℕ) (r : List ℕ) : Type 0 where
   some : is_empty (chars (drop (hash_len bs) bs)) ≡ false
   quote : first_passes is_quote (chars (drop (hash_len bs) bs)) ≡ is_quote b

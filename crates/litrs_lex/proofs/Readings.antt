@@ -29,7 +29,7 @@ some w bytes offset at h r = record {
   is_value = refl;
 }
 
--- and back, where the value is held
+-- and back, if the value is held
 back : (w : Switches) (bytes value : List ℕ) (offset at : ℕ) (h : List ℕ → Type 0) → ReadsSome w (chars (take offset bytes)) (chars bytes) (chars (drop at bytes)) at value →
     IsCharBoundary bytes at → length value ≤ at → h value → IsReadTo w bytes offset at h
 back w bytes value offset at h r b fit held = record {
@@ -148,7 +148,7 @@ pub quote_of : (w : Switches) (bytes rest : List ℕ) (place : ℕ) {s : Stop} �
     first_passes (λ c. c == 34) (chars (drop place bytes)) ≡ true
 quote_of w bytes rest place is at h = subst (λ (l : List ℕ). first_passes (λ c. c == 34) (chars l) ≡ true) at (subst (λ (x : Stop). StandsAt w rest x) is h)
 
--- what may be pushed where byte escapes are on may be pushed into what takes bytes
+-- what may be pushed if byte escapes are on may be pushed into what takes bytes
 fits_container : (bytes takes : Bool) (v : Unescape) → (not bytes || takes) ≡ true → is_pushable bytes v ≡ true → is_pushable takes v ≡ true
 fits_container false false v h g = g
 fits_container false true (Byte b) h g = refl

@@ -29,7 +29,7 @@ piece_grows takes contents piece new v part is text held = (
   λ none. subst IsUtf8 (sym is) (IsUtf8-append piece part (held.1 none) (text none)),
 )
 
--- a byte is a text where bytes above 7F are not taken
+-- a byte is a text if bytes above 7F are not taken
 pub byte_text : (takes : Bool) (b : ℕ) → (takes || is_ascii b) ≡ true → takes ≡ false → IsUtf8 (b ∷ [])
 byte_text true b h none = absurd (true≢false none)
 byte_text false b h none = let low = ltb-true b 128 h in subst IsUtf8 (encode_ascii b low) (IsUtf8-encode b (low_scalar b (omega arith)))

@@ -44,7 +44,7 @@ skip_back k t rest is trivia h = elim (first h) [
   | inr s ↦ subst OpensAttribute (unique_tokens t s.kind k s.rest rest s.is is).1 s.more
 ]
 
--- where the token at the front is not skipped
+-- if the token at the front is not skipped
 pub stops_at : (k : TokenKind) (t rest : List ℕ) → IsToken k t rest → (is_trivia k ≡ true → doc_style k t ≡ None → ⊥) → OpensAttribute t → first_passes is_bracket t ≡ true
 stops_at k t rest is never h = elim (first h) [
   | inl b ↦ b

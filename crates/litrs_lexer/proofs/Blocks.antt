@@ -7,7 +7,7 @@ use Rattle.litrs_lexer.specs.Comment.{star, slash, opens_comment, closes_comment
 use Rattle.litrs_lexer.specs.Cut.{is_of_comment, block_end}
 use Rattle.litrs_lexer.specs.Whitespace.{after_while}
 
--- one character, where it and the next are neither front nor end of a comment
+-- one character, if it and the next are neither front nor end of a comment
 pub step_on : (n c d : ℕ) (t : List ℕ) → opens_comment c d ≡ false → closes_comment c d ≡ false → block_end n (c ∷ d ∷ t) ≡ block_end n (d ∷ t)
 step_on zero c d t a b = rw a (rw b refl)
 step_on (suc n) c d t a b = rw a (rw b refl)

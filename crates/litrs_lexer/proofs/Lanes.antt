@@ -9,7 +9,7 @@ use Rattle.litrs_lexer.specs.declared.ascii.Class.{Class}
 use Rattle.litrs_lexer.specs.declared.ascii.Class.TheVariants.{Word, Space}
 use Rattle.litrs_lexer.specs.Cut.{is_of_class}
 
--- lanes that are 255 where a test holds and 0 elsewhere
+-- lanes that are 255 if a test holds and 0 otherwise
 abbrev mark : Bool → ℕ
 mark b = cond b 255 0
 

@@ -77,7 +77,7 @@ abbrev after_first : {A : Type 0} → List A → List A
 after_first [] = []
 after_first (x ∷ xs) = xs
 
--- a prefix of a list with one more is a prefix of the list, where something follows it
+-- a prefix of a list with one more is a prefix of the list, if something follows it
 shorter_front : {A : Type 0} (front rest list : List A) (last : A) → (rest ≡ [] → ⊥) → front ++ rest ≡ list ++ last ∷ [] → (more : List A) × (front ++ more ≡ list)
 shorter_front [] rest list last some is = (list, refl)
 shorter_front (x ∷ front) rest [] last some is =
@@ -171,7 +171,7 @@ is_least group after texts fronts front [] is some more (inr none) = more refl
 is_least group after texts fronts front (next ∷ rest) is some more (inr none) =
     none (of_next IsUtf8 front next rest (subst (All IsUtf8) (sym is) texts))
 
--- the lines that are held are a group, where no text follows
+-- the lines that are held are a group, if no text follows
 held_group : (line : List ℕ) (lines after : List (List ℕ)) → IsOpen (line ∷ lines) → NoTextNext after → IsGroup (line ∷ lines) after
 held_group line lines after held none = record {
   some = λ nothing. cc;
@@ -208,7 +208,7 @@ abbrev GroupsFrom : (group lines : List (List ℕ)) → Type 0
 GroupsFrom group lines = (texts : List (List ℕ)) (left : List ℕ) → LinesEnd (with_ends group) lines texts left → Grouping (group ++ lines) (texts ++ unless_held left)
 
 module _ (line : List ℕ) (lines : List (List ℕ)) (after : (group : List (List ℕ)) → IsOpen group → GroupsFrom group lines) where
-  -- where nothing is held after the line
+  -- if nothing is held after the line
   after_nothing : (between : List ℕ) (texts : List (List ℕ)) (left : List ℕ) → between ≡ [] → LinesEnd between lines texts left → Grouping lines (texts ++ unless_held left)
   after_nothing between texts left none end = after [] open_none texts left (subst (λ (h : List ℕ). LinesEnd h lines texts left) none end)
 

@@ -361,7 +361,7 @@ module _ {left_old left contents_old contents : Option (List ℕ)} {line held : 
       subst (λ (ls : List (List ℕ)). AreEndedReports [] ls left_held (run.so_far ++ out)) (sym (lines_of_piece piece))
       (ended-append [] (ended_lines run.taken) (ended_lines (line ++ piece)) held left_held run.so_far out run.reports is)
 
-  -- and on all lines, where nothing more is taken
+  -- and on all lines, if nothing more is taken
   reports_on_all : (last out : List ℕ) → last ≡ line → AreLastReports held (unless_empty last) out → AreLastReports [] (lines_of run.taken) (run.so_far ++ out)
   unfolding lines_of
   reports_on_all last out is all =

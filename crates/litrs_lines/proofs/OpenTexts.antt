@@ -310,7 +310,7 @@ none_over_line n (c ∷ s) t none later =
     let parts : (begins_with (raw_closing n) (c ∷ s) ≡ false) × (occurs (raw_closing n) s ≡ false) = or_parts _ _ none in
     or_from _ _ (ap (λ v. (34 == c) && v) (hashes_before_line n s t) ∙ parts.0) (none_over_line n s t parts.1 later)
 
--- a body with an LF after it has a closing only where it has one before
+-- a body with an LF after it has a closing only if it has one before
 closing_before_line : (n : ℕ) (s : List ℕ) → occurs (raw_closing n) (s ++ 10 ∷ []) ≡ occurs (raw_closing n) s
 closing_before_line n [] = refl
 closing_before_line n (c ∷ s) =

@@ -52,7 +52,7 @@ pub stops_longer : (a c : Option (List ℕ)) (old out more : List ℕ) → Appen
 stops_longer a c old out more part =
     stops_later a a c old old [] out more _ (adds a old old [] (sym (append-nil old))) part refl
 
--- where nothing was unwritten before, and nothing is then
+-- if nothing was unwritten before, and nothing is then
 pub writes_these : (a b : Option (List ℕ)) (p q x : List ℕ) → Sends a p b q x → p ≡ [] → q ≡ [] → Appends a b x
 writes_these a b p q x one first last =
     subst (Appends a b) (sym (append-nil one.written) ∙ ap (λ l. one.written ++ l) (sym last) ∙ one.spells ∙ ap (λ l. l ++ x) first) one.appends
@@ -102,6 +102,6 @@ pub sends_last : (held bytes rest between left out more : List ℕ) → SendsHex
 sends_last held bytes rest between left out more so_far last =
     (last.0 ∙ so_far.same, ap (λ l. l ++ more) so_far.hex ∙ ap (λ l. hex_bytes so_far.front ++ l) last.1 ∙ sym (hex_bytes-append so_far.front rest) ∙ ap hex_bytes (sym so_far.is))
 
--- a piece, where a failure leaves the rest
+-- a piece, if a failure leaves the rest
 pub hex_longer : (held bytes rest left out : List ℕ) → SendsHex held bytes rest left out → (left' : List ℕ) × (more : List ℕ) × AreBytes held (hex_bytes bytes) left' (out ++ more)
 hex_longer held bytes rest left out so_far = (left, hex_bytes rest, sends_last held bytes rest left left out (hex_bytes rest) so_far (refl, refl))

@@ -33,7 +33,7 @@ use Rattle.litrs_prefix.proofs.Unique.{unique}
 
 -- a malformed literal
 
--- it is longer where all of the longer text is taken for it
+-- it is longer if all of the longer text is taken for it
 longer_front : (t : List ℕ) (c : ℕ) (m front : List ℕ) → after_opened (t ++ c ∷ m) ≡ [] → IsMalformedFront t front → IsMalformedFront (t ++ c ∷ m) front → ⊥
 longer_front t c m front taken is longer =
     let short : length t ≡ length front + length is.rest = ap length (sym is.spells) ∙ length-append front is.rest in
@@ -302,7 +302,7 @@ front_later (c ∷ t) h = go (c == 39) (c == 114) (c == 98) (c == 99) refl refl 
         named true all h = at 39 d (lifetime_later t all)
         named false all h = raw r b w e f g h
 
--- where neither, none begins later
+-- if neither, none begins later
 
 or_false : (a b : Bool) → (a || b) ≡ false → (a ≡ false) × (b ≡ false)
 or_false true b h = absurd (true≢false h)

@@ -361,7 +361,7 @@ opened_grows : (B : List ℕ → Type 0) (m : List ℕ) → Base B m → (t : Li
 opened_grows B m base [] h sees = absurd (false≢true h)
 opened_grows B m base (c ∷ t) h sees = name_grows B m base (after_body (c ∷ t)) (after_body (c ∷ (t ++ m))) (body_grows B m base c t h sees)
 
--- any text after it, where something is left
+-- any text after it, if something is left
 
 abbrev Any : List ℕ → Type 0
 Any y = y ≡ y
@@ -388,7 +388,7 @@ left_stays t m h other some = elim (opened_grows Any m (any m) t h (inr (other, 
   | inr is ↦ absurd (true≢false (sym (ap is_empty is.0) ∙ some))
 ]
 
--- the letter x after it, where nothing is left
+-- the letter x after it, if nothing is left
 
 abbrev None : List ℕ → Type 0
 None y = y ≡ []
@@ -474,7 +474,7 @@ quoted : (v : Bool) → not v ≡ false → v ≡ true
 quoted true h = refl
 quoted false h = absurd (true≢false h)
 
--- after `'`, where a char begins and something is there
+-- after `'`, if a char begins and something is there
 char_opens : (c : ℕ) (t m : List ℕ) → begins_lifetime (c ∷ t) ≡ false → begins_lifetime (c ∷ (t ++ m)) ≡ false
 char_opens c t m h = go (starts_identifier c) refl h
   where

@@ -98,7 +98,7 @@ front_found bs front rest n x u before after (inl is) h =
     let same : is.literal ≡ x = (unique (chars front) is.literal x [] [] (whole (chars front) is.literal literal) (whole (chars front) x h)).0 in
     subst (λ (d : Derivation). HasPrefix (chars bs) d (chars rest)) same (subst (λ (l : List ℕ). HasPrefix (chars bs) is.literal (chars l)) (sym after) is.at_front)
 
--- what the spans of an error are moved by fits, where it is within the source text
+-- what the spans of an error are moved by fits, if it is within the source text
 pub malformed_moves : (bs : List ℕ) (e : MalformedPrefix) (offset : ℕ) → IsUtf8 bs → offset + length bs < 2 ^ 64 → IsMalformedOrOutOfMemory (chars bs) e → MovesWithin offset e.error
 malformed_moves bs e offset u small (inl is) =
     let cut = cut_at bs is.front is.rest u (sym is.spells) in

@@ -48,7 +48,7 @@ pub map_ok : {X E : Type 0} (r : Result X E) (P Q : X → Type 0) → IfOk r P �
 map_ok (Ok x) P Q all step = step x all
 map_ok (Err e) P Q all step = tt
 
--- it fails only where the test passes
+-- it fails only if the test passes
 pub fails_if : {X E : Type 0} (r : Result X E) (b : Bool) → (b ≡ false → IsOk r) → IfErr r (λ _. b ≡ true)
 fails_if (Ok x) b fine = tt
 fails_if (Err e) true fine = refl

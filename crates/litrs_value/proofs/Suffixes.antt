@@ -1,4 +1,4 @@
--- A suffix names a type where its bytes do.
+-- A suffix names a type if its bytes do.
 use Rattle.std.proofs.Common.{◌≡◌, ℕ, Bool, true, false, cond, List, [], IsUtf8, refl, sym, ap, ◌∙◌}
 use Rattle.std.specs.List.{list_all}
 use Rattle.std.specs.Str.{chars, encode_utf8_all}

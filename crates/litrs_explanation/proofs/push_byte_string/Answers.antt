@@ -1,4 +1,4 @@
--- The line is that on the literal, and a build without a suffix fails only where an allocation does.
+-- The line is that on the literal, and a build without a suffix fails only if an allocation does.
 use Rattle.std.proofs.Common.{string_bytes, ◌≡◌, ℕ, List, ap, ◌∙◌, rules, arith}
 use Rattle.std.specs.Str.{chars}
 use Rattle.std.proofs.lemmas.Str.{chars-nil}

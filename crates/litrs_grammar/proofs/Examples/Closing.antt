@@ -13,7 +13,7 @@ use Rattle.litrs_grammar.specs.Refused.{IsRefused}
 use Rattle.litrs_grammar.proofs.Computing.{computing, quoted}
 use Rattle.litrs_grammar.proofs.Laws.Literal.{literals_are_unique}
 
--- where the kind is open, the closing text makes the text a literal
+-- if the kind is open, the closing text makes the text a literal
 refused_closes :
     (parse : Parse) (t : List ℕ) (e : ParseError) → IsRefused parse t e → IsTrue (is_open (kind_of e)) →
     IsClosedBy (IsLiteralOf parse) t (closing_of t (refusal_of e))

@@ -68,7 +68,7 @@ hex_escapes = (
 
 unicode_escapes :
     Is char_switches (unicode_escape (codes "1_F6_02_____")) "\\u{1_F6_02_____}" (Unicode 0x1F602)
-    -- 0 where NUL is allowed, and numbers of one byte are characters
+    -- 0 if NUL is allowed, and numbers of one byte are characters
     × Is char_switches (unicode_escape (codes "0")) "\\u{0}" (Unicode 0)
     × Is string_switches (unicode_escape (codes "000_")) "\\u{000_}" (Unicode 0)
     × Is c_string_switches (unicode_escape (codes "1")) "\\u{1}" (Unicode 1)

@@ -36,7 +36,7 @@ literals :
     × Is c_string_kind "c\"é\\xFF\"" (plains "é" ++ escape_item (hex_escape 70 70) ∷ []) "" (0xC3 ∷ 0xA9 ∷ 0xFF ∷ [])
     × Is byte_string_kind "b\"\\xFFa\\t\"" (escape_item (hex_escape 70 70) ∷ plain_item 97 ∷ escape_item (simple_escape 116) ∷ []) "" (0xFF ∷ 0x61 ∷ 0x09 ∷ [])
     × Is c_string_kind "c\"\\u{1_F6_02_____}\"" (escape_item (unicode_escape (codes "1_F6_02_____")) ∷ []) "" (encode_utf8_all (codes "😂"))
-    -- 0 where NUL is allowed
+    -- 0 if NUL is allowed
     × Is string_kind "\"\\u{0}\"" (escape_item (unicode_escape (codes "0")) ∷ []) "" (0 ∷ [])
     × Is byte_string_kind "b\"\0\"" (plain_item 0 ∷ []) "" (0 ∷ [])
     -- LF and tab may be plain characters
@@ -240,7 +240,7 @@ rows-carriage_return = (
   refused_after (plain_item 97 ∷ continuation [] ∷ []) (codes "\r\"") (at_byte 0 kind.CarriageReturn) refl refl refl refl,
 )
 
--- where NUL and characters beyond ASCII are both not allowed
+-- if NUL and characters beyond ASCII are both not allowed
 abbrev strict : Switches
 strict = record { unicode = false; byte_escapes = true; allow_nul = false }
 

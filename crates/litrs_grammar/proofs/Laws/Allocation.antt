@@ -30,7 +30,7 @@ no_backslash (c ∷ t) h =
     let p = and_parts (is_xid_continue c) (list_all is_xid_continue t) h in
     or_from _ _ (no_backslash_continues c p.0) (no_backslash t p.1)
 
--- after its front a quoted literal has a backslash where its body has one
+-- after its front a quoted literal has a backslash if its body has one
 in_body : (items : List Item) (suffix : List ℕ) → is_suffix suffix ≡ true → ((has_backslash (body_text items ++ 34 ∷ suffix) || false) || false) ≡ has_backslash (body_text items)
 in_body items suffix h =
     (λ i. ((list_any-append (λ c. c == 92) (body_text items) (34 ∷ suffix) i) || false) || false)

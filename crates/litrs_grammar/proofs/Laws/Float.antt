@@ -44,7 +44,7 @@ unfolding float_refusal
 refusal_of_cut d cut =
     ap (λ (c : FloatParts). number_rows (is_empty (float_text d)) (first_passes is_ascii_digit (float_text d)) (float_cut_refusal c)) (cut_of_text d cut)
 
--- where no row fits
+-- if no row fits
 
 pub record NoRow (empty digit_first wrong_fraction period has_exponent exponent_digit has_suffix : Bool) : Type 0 where
   pub some : empty ≡ false

@@ -229,7 +229,7 @@ refused t e refusal d r = let free = integer_refusal-free t d r in cc
 pub only_cut : (t : List ℕ) → integer_refusal t ≡ None → IsOnlyDerivation (IsIntegerOf t) (integer_cut t)
 only_cut t free = (derivable t free, λ e r. only_integer t (integer_cut t) e (derivable t free) r)
 
--- where a text begins with a digit the cut alone decides
+-- if a text begins with a digit the cut alone decides
 pub refusal_of_digit : (t : List ℕ) → first_passes is_ascii_digit t ≡ true → integer_refusal t ≡ integer_cut_refusal (integer_cut t)
 unfolding integer_refusal
 refusal_of_digit t digit = rw (not_empty_by_first is_ascii_digit t digit, digit) refl

@@ -196,7 +196,7 @@ value_size value t (inr h) = (omega (arith, h.0), ((λ e. absurd (omega (arith, 
 pub quoted_values_fit_bodies : QuotedValuesFitBodies
 quoted_values_fit_bodies w t items h = value_size (body_value items) t (subst (λ l. HasSize (body_value items) l) h.spells (body_size w items h.body))
 
--- no byte of a value is zero where NUL is not allowed
+-- no byte of a value is zero if NUL is not allowed
 not_nul : (w : Switches) (n : ℕ) → w.allow_nul ≡ false → allows_value w n ≡ true → is_nul n ≡ false
 not_nul w n off h = not-true _ (subst (λ b. (b || not (n == 0)) ≡ true) off h)
 

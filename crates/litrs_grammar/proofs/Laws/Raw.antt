@@ -72,7 +72,7 @@ refusal_of_closed unicode allow_nul n start body x none =
     (raw_char_refusal (slice_index r (prefix_len ok (before j)))) (suffix_refusal (after j))
     (ltb (prefix_len ok (before j)) (length (before j))) (closed j) (is_suffix (after j))
 
--- where no row fits
+-- if no row fits
 
 record NoBodyRow (refused closed suffix : Bool) : Type 0 where
   allowed : refused ≡ false

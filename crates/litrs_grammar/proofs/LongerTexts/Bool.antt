@@ -24,12 +24,12 @@ scalar_bool false = refl
 from_front : (t : List ℕ) (b : Bool) → begins_with t (bool_text b) ≡ true → BeginsBy IsBool t
 from_front t b begins = (drop (length t) (bool_text b), b, rest_is_text t (bool_text b) (scalar_bool b) begins, sym (begins_with-split t (bool_text b) begins))
 
--- a list begins a bool, be what is appended a text or not, only where it is a prefix of one
+-- a list begins a bool, even with a list appended that is not a text, only if it is a prefix of one
 pub bool_front : (t x : List ℕ) (b : Bool) → IsBool (t ++ x) b → bool_goes_on t ≡ true
 bool_front t x true is = or_left _ _ (ap (begins_with t) is ∙ begins_with-append t x)
 bool_front t x false is = or_right _ _ (ap (begins_with t) is ∙ begins_with-append t x)
 
--- a text begins a bool exactly where it is a prefix of one
+-- a text begins a bool if and only if it is a prefix of one
 pub bool_begins : (t : List ℕ) → BeginsBy IsBool t ↔ (bool_goes_on t ≡ true)
 bool_begins t = (λ begins. bool_front t begins.0 begins.1 begins.3, from)
   where

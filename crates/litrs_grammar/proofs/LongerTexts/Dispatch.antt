@@ -153,7 +153,7 @@ dispatch_stays (c ∷ r) x k e h fault = go (is_bool (c ∷ r)) (is_ascii_digit 
         let other_is : other (c ∷ r) ≡ parsed_as k = sym (if_false (is_bool (c ∷ r)) _ _ is_b ∙ if_false (is_ascii_digit c) _ _ is_d) ∙ h in
         if_false (is_bool (c ∷ (r ++ x))) _ _ (no_bool c r x k other_is) ∙ if_false (is_ascii_digit c) _ _ is_d ∙ other_stays c r x k other_is
 
--- what a kind's own table refuses begins a literal exactly where it begins one of that kind
+-- a text that a kind's own table refuses begins a literal if and only if it begins one of that kind
 pub literal_begins : (t : List ℕ) (k : LiteralKind) (e : Refusal) → dispatch t ≡ parsed_as k → IsKindRefusal k t e → Begins literal_parse t ↔ Begins (kind_parse k) t
 literal_begins t k e named fault = (own, any)
   where
@@ -188,7 +188,7 @@ number_named : (b : Bool) (e : Refusal) → (if b then parsed_as float_literal e
 number_named true e h = cc
 number_named false e h = cc
 
--- a text that no kind is named for begins a literal only where it is a prefix of a bool or `b`
+-- a text that no kind is named for begins a literal only if it is a prefix of a bool or `b`
 pub undispatched_front : (t x : List ℕ) (d : Derivation) (e : Refusal) → dispatch t ≡ refused_as e → IsLiteral (t ++ x) d → undispatched_goes_on t ≡ true
 unfolding dispatch
 undispatched_front [] x d e h lit = refl

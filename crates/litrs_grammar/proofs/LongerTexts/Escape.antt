@@ -123,7 +123,7 @@ escape_finality w t e f h more (g, rest, spells, grammar) =
     let none : escape_refusal w (t ++ more) ≡ None = subst (λ (l : List ℕ). escape_refusal w l ≡ None) spells (refusal_escape w g rest grammar) in
     let some : escape_refusal w (t ++ more) ≡ Some e = escape_final w t more e f h in cc
 
--- `\u{` and what follows it, where no `}` follows
+-- `\u{` and what follows it, if no `}` follows
 
 abbrev digits : List ℕ → ℕ
 digits t = count_by is_ascii_hexdigit t

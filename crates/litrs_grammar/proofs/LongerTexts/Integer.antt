@@ -46,7 +46,7 @@ cut_ends base t =
 cut_digits : (base : IntegerBase) (t : List ℕ) → list_all (is_digit_or_underscore base) (cut_with base t).main ≡ true
 cut_digits base t = list_all-take_while (is_digit_or_underscore base) (drop (length (prefix base)) t)
 
--- the cut of a longer text, where something follows the main part
+-- the cut of a longer text, if something follows the main part
 cut_more : (c d : ℕ) (r x : List ℕ) (k : ℕ) (s : List ℕ) → (cut_with (base_of (c ∷ d ∷ r)) (c ∷ d ∷ r)).suffix ≡ k ∷ s →
     integer_cut (c ∷ d ∷ (r ++ x)) ≡ record { base = base_of (c ∷ d ∷ r); main = (cut_with (base_of (c ∷ d ∷ r)) (c ∷ d ∷ r)).main; suffix = k ∷ (s ++ x) }
 cut_more c d r x k s is =
@@ -146,7 +146,7 @@ suffix_begins c d r digit is =
     one_digit_is Decimal = refl
     one_digit_is Hexadecimal = refl
 
--- where some list after a refused text gives an integer, nothing follows the main part
+-- if some list after a refused text gives an integer, nothing follows the main part
 freed_suffix : (t : List ℕ) (e : Refusal) → first_passes is_ascii_digit t ≡ true → integer_refusal t ≡ Some e → (x : List ℕ) (d : IntegerParts) → IsIntegerOf (t ++ x) d →
     (integer_cut t).suffix ≡ []
 freed_suffix [] e digit h x d reads = cc
@@ -180,7 +180,7 @@ integer_finality t e h f x d reads = go (is_empty t) (first_passes is_ascii_digi
     go false true is_n is_b =
         no_digits_kind (integer_cut t) e (freed_suffix t e is_b h x d reads) f (sym (refusal_of_digit t is_b) ∙ h)
 
--- a refused text begins an integer exactly where it is empty or nothing follows its main part
+-- a refused text begins an integer if and only if it is empty or nothing follows its main part
 pub integer_goes_on : (t : List ℕ) (e : Refusal) → integer_refusal t ≡ Some e → BeginsBy IsIntegerOf t ↔ IntegerGoesOn t
 integer_goes_on t e h = (λ begins. goes (is_empty t) (first_passes is_ascii_digit t) refl refl begins, begin t h)
   where

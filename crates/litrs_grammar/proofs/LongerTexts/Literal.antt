@@ -100,7 +100,7 @@ chain f g = (λ a. g.0 (f.0 a), λ c. f.1 (g.1 c))
 pub back : {A B : Type 0} → A ↔ B → B ↔ A
 back f = (f.1, f.0)
 
--- where neither holds
+-- if neither holds
 neither : {A : Type 0} (b : Bool) → b ≡ false → (A → ⊥) → (b ≡ true) ↔ A
 neither b shut none = (λ h. absurd (both_ways b shut h), λ a. absurd (none a))
 

@@ -407,7 +407,7 @@ open_kind w rest e (inr (blanks, is, all)) told =
     let h : (if list_all is_blank blanks then Some (without_span UnterminatedString) else None) ≡ Some e = ap (item_refusal w) (sym is) ∙ told in
     let g : Some (without_span UnterminatedString) ≡ Some e = rw all at h in cc
 
--- a quoted text that ends with LF and is refused begins a literal exactly where its refusal is open
+-- a refused quoted text that ends with LF begins a literal if and only if its refusal is open
 pub quoted_line_end : (front : List ℕ) (w : Switches) (t : List ℕ) (e : Refusal) → IsQuotedRefusal front w (t ++ 10 ∷ []) e →
     (is_open e.kind ≡ true) ↔ BeginsBy (IsQuoted front w) (t ++ 10 ∷ [])
 quoted_line_end front w t e h = (shut, λ begins. go h.rest h.spells h.decided (begins_rest front w (t ++ 10 ∷ []) e h begins))

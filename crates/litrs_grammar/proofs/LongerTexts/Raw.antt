@@ -160,7 +160,7 @@ unclosed_refusal unicode allow_nul n start t grammar =
     let all : ltb (prefix_len ok t) (length t) ≡ false = le-ltb _ _ (omega (arith, prefix_len_all ok t grammar.allowed)) in
     rw (body, all, grammar.unclosed) refl
 
--- A scan stays that of every longer text, but where nothing closes the body.
+-- A scan stays that of every longer text, unless nothing closes the body.
 
 abbrev stopped_more : (unicode allow_nul : Bool) (n : ℕ) (t more : List ℕ) → IsStopped unicode allow_nul n t → IsStopped unicode allow_nul n (t ++ more)
 stopped_more unicode allow_nul n t more x = record {

@@ -43,12 +43,12 @@ raw_stays kind t x is =
     ap (λ l. string_start kind (l ++ x)) (sym (after_raw kind t is))
     ∙ ap (string_start kind) (append_assoc (raw_front kind) (drop (length (raw_front kind)) t) x) ∙ start_raw kind _
 
--- a string of the kind that a text begins is quoted where the text starts so
+-- a string of the kind that a text begins is quoted if the text starts so
 pub only_quoted : (kind : StringKind) (t x : List ℕ) (d : StringParts) → string_start kind t ≡ quoted_start → IsString kind (t ++ x) d → (q : QuotedParts) × IsQuotedLiteral kind (t ++ x) q
 only_quoted kind t x (quoted_parts q) is lit = (q, lit)
 only_quoted kind t x (raw_parts q) is lit = absurd (let both : quoted_start ≡ raw_start = sym (quoted_stays kind t x is) ∙ raw_starts kind (t ++ x) q lit in cc)
 
--- and raw where it starts so
+-- and raw if it starts so
 pub only_raw : (kind : StringKind) (t x : List ℕ) (d : StringParts) → string_start kind t ≡ raw_start → IsString kind (t ++ x) d → (q : RawParts) × IsRawLiteral kind (t ++ x) q
 only_raw kind t x (raw_parts q) is lit = (q, lit)
 only_raw kind t x (quoted_parts q) is lit = absurd (let both : raw_start ≡ quoted_start = sym (raw_stays kind t x is) ∙ quoted_starts kind (t ++ x) q lit in cc)
@@ -126,7 +126,7 @@ raw_completes kind t h =
       },
     )
 
--- a text that begins with neither front begins a string exactly where one of the two begins with it
+-- a text that begins with neither front begins a string if and only if one of them begins with it
 pub start_begins : (kind : StringKind) (t : List ℕ) (e : Refusal) → string_start kind t ≡ refused_start e → BeginsBy (IsString kind) t ↔ (start_goes_on kind t ≡ true)
 start_begins kind t e is = (λ begins. front_goes_on kind t (starts_front kind t begins.0 begins.1 e is begins.3), from)
   where

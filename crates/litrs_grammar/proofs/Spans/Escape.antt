@@ -128,7 +128,7 @@ take_while_passes p (x ∷ xs) = rw (take_while-cons p x xs) (go (p x) refl (tak
     go true e rec = and_from _ _ e rec
     go false e rec = refl
 
--- the place after n digits, where the front of the text has more
+-- the place after n digits, if the front of the text has more
 abbrev PlaceIn : ℕ → List ℕ → List ℕ → Type 0
 PlaceIn n front more = (a : List ℕ) × (c : ℕ) × (b : List ℕ) × (a ++ c ∷ b ≡ front) × (length a ≡ place_after n is_ascii_hexdigit (front ++ more))
 

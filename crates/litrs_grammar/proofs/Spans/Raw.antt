@@ -57,7 +57,7 @@ char_span t front r start k kind spells at_start inside =
     (append_assoc front (take k r) (get_or r k 0 ∷ drop (k + 1) r) ∙ (ap (λ s. front ++ s) split ∙ spells))
     (byte_len-append front (take k r) ∙ ap (λ m. m + byte_len (take k r)) at_start)
 
--- what follows a closing, where that is not empty
+-- what follows a closing, if that is not empty
 suffix_span : (t front x : List ℕ) (place : ℕ) (kind : ParseErrorKind) → front ++ x ≡ t → byte_len front ≡ place → is_suffix x ≡ false → IsInText t (at_byte place kind)
 unfolding is_suffix
 suffix_span t front [] place kind spells at_place h = absurd (true≢false h)
@@ -134,7 +134,7 @@ raw_last unicode allow_nul front d g =
     ∙ (last_passes-append is_line_feed (front ++ (hashes n ++ (34 ∷ d.body))) 34 tail
     ∙ last_passes-both is_line_feed (raw_closing n) d.suffix (closing_last n) (suffix_last d.suffix g.suffix))
 
--- the value where NUL is not allowed
+-- the value if NUL is not allowed
 
 raw_char_no_nul : (unicode : Bool) (c : ℕ) → is_raw_char unicode false c ≡ true → is_nul c ≡ false
 raw_char_no_nul unicode c h = not-true _ (and_parts (unicode || ltb c 128) _ (and_parts (not (c == 13)) _ h).1).1

@@ -1,4 +1,4 @@
--- The first character is a digit where the first byte is one.
+-- The first character is a digit if the first byte is one.
 use Rattle.std.proofs.Common.{arith}
 use Rattle.std.proofs.lemmas.Bool.Decides.{nat_tests}
 use Rattle.std.proofs.lemmas.Grind.{common_steps}

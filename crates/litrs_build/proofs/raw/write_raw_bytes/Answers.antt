@@ -1,4 +1,4 @@
--- The body is the bytes, which are their own characters where it is a raw value.
+-- The body is the bytes, which are their own characters if it is a raw value.
 use Rattle.std.proofs.Common.{◌≡◌, ℕ, List, ◌∷◌, [], subst, string_bytes, IfOk, IfErr}
 use Rattle.std.specs.Prelude.{Option, None}
 use Rattle.std.specs.Str.{chars}

@@ -1,4 +1,4 @@
--- A closing follows where there are as many hashes.
+-- A closing follows if there are as many hashes.
 use Rattle.std.proofs.Common.{◌≡◌, ℕ, zero, suc, ◌+◌, ◌-◌, true, false, not, cond, eqb, ltb, ◌&&◌, inl, inr, List, [], ◌∷◌, length, take, drop, sym, ap, ◌∙◌, eq-eqb, arith}
 use Rattle.std.proofs.lemmas.Bool.{cases_Bool, cases_lt, lt-ltb, le-ltb, eqb-true, ne_eqb, true≢false}
 use Rattle.std.proofs.lemmas.Grind.{common_steps}

@@ -1,4 +1,4 @@
--- An attribute begins at the text where one does at the rest.
+-- An attribute begins at the text if one does at the rest.
 use Rattle.std.proofs.Common.{length}
 use Rattle.std.specs.Str.{chars}
 use denote.Text.{Utf8}

@@ -1,4 +1,4 @@
--- The digits are an integer, where no name and no period follows.
+-- The digits are an integer, if no name and no period follows.
 use Rattle.std.proofs.Common.{◌≡◌, false, sym, ap, ◌∙◌}
 use Rattle.std.specs.Str.{chars}
 use Rattle.litrs_base.specs.Text.{first_passes}

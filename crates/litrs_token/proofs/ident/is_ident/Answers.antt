@@ -1,4 +1,4 @@
--- `_`, the empty text, and any other, which is an identifier where it is a suffix.
+-- `_`, the empty text, and any other, which is an identifier if it is a suffix.
 use Rattle.std.proofs.Common.{sym, ◌∙◌}
 use Rattle.litrs_token.proofs.Idents.{lone_is_ident, empty_is_no_ident, ident_by_suffix}
 use Rattle.litrs_token.proofs.ident.is_ident.Goals as goal

@@ -1,4 +1,4 @@
--- The cut decides, where the front is that of a byte.
+-- The cut decides, if the front is that of a byte.
 use Rattle.litrs_token.proofs.TokenTexts.{byte_token}
 use Rattle.litrs_token.proofs.NoTokens.{no_byte}
 use Rattle.litrs_token.proofs.kind.byte_kind.Goals as goal

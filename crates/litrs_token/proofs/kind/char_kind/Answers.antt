@@ -1,4 +1,4 @@
--- The cut decides, where the front is that of a char.
+-- The cut decides, if the front is that of a char.
 use Rattle.litrs_token.proofs.TokenTexts.{char_token}
 use Rattle.litrs_token.proofs.NoTokens.{no_char}
 use Rattle.litrs_token.proofs.kind.char_kind.Goals as goal

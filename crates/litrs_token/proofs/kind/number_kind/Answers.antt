@@ -1,4 +1,4 @@
--- The cut decides, where the front is a digit.
+-- The cut decides, if the front is a digit.
 use Rattle.litrs_token.proofs.TokenTexts.{float_token, integer_token}
 use Rattle.litrs_token.proofs.NoTokens.{no_number}
 use Rattle.litrs_token.proofs.kind.number_kind.Goals as goal

@@ -1,4 +1,4 @@
--- The cut decides, where the front is that of a quoted string.
+-- The cut decides, if the front is that of a quoted string.
 use Rattle.litrs_lex.proofs.StringFronts.{quoted_boundary}
 use Rattle.litrs_token.proofs.StringTests.{quoted_derivation, quoted_none}
 use Rattle.litrs_token.proofs.TokenTexts.{string_token_of}

@@ -1,4 +1,4 @@
--- The cut decides, where the front is that of a raw string.
+-- The cut decides, if the front is that of a raw string.
 use Rattle.std.proofs.Common.{ap}
 use Rattle.litrs_base.specs.declared.quotes.Switches.{Switches}
 use Rattle.litrs_lex.proofs.StringFronts.{raw_boundary}

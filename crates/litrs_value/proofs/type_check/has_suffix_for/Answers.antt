@@ -1,4 +1,4 @@
--- A suffix names a type where its bytes do.
+-- A suffix names a type if its bytes do.
 use Rattle.std.proofs.Common.{sym, ap, ◌∙◌, inl, inr, length, ◌==◌}
 use Rattle.std.proofs.lemmas.Bool.{cases_Bool, false≢true, eqb-true}
 use Rattle.std.proofs.lemmas.List.{nil_from_length}

@@ -1,4 +1,4 @@
--- A byte is a text where the container takes no others.
+-- A byte is a text if the container takes no others.
 use Rattle.std.proofs.Common.{sym, ap, subst, ◌∙◌}
 use Rattle.std.specs.Prelude.{IsTrue}
 use Rattle.litrs_base.specs.declared.escape.Unescape.{Unescape}
