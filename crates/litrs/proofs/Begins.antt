@@ -20,7 +20,7 @@ no none = (λ h. absurd (false≢true h), λ p. absurd (none p))
 pub answer_is : {P : Type 0} (a b : Bool) → a ≡ b → IsTrue b ↔ P → IsTrue a ↔ P
 answer_is {P} a b same is = subst (λ (v : Bool). IsTrue v ↔ P) (sym same) is
 
--- what has a derivation begins a text that has one
+-- a text with a derivation begins a text with one
 pub begins_now : {D : Type 0} (Derives : List ℕ → D → Type 0) (t : List ℕ) (d : D) → Derives t d →
     BeginsBy Derives t
 begins_now {D} Derives t d is =

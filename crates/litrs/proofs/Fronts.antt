@@ -35,7 +35,7 @@ pub nothing_chars : (bs : List ℕ) → length bs ≡ 0 → chars bs ≡ []
 nothing_chars [] e = chars-nil
 nothing_chars (b ∷ bs) e = absurd (omega arith)
 
--- what the code tests is that the text begins with the front
+-- the code tests that the text begins with the front
 pub starts_with_front : (front bytes : List ℕ) → starts_with nat_eq bytes front ≡ begins_with front
     bytes
 starts_with_front [] bytes = refl

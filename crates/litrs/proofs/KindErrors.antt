@@ -55,7 +55,7 @@ pub kind_error_at : (kind : LiteralKind) (bytes text : List ℕ) (e f : ParseErr
 kind_error_at kind bytes text e f u same is copy error =
     subst (IsRefusedOrOutOfMemory literal_parse (chars bytes)) (sym copy) (kind_error kind (chars bytes) e (row_at bytes text (parsed_as kind) u same is) error)
 
--- what begins as a quoted or a raw string of a kind is dispatched to it
+-- a text that begins as a quoted or a raw string of a kind is dispatched to it
 pub string_row : (f : Front) (kind : StringKind) (bs : List ℕ) → (f ≡ front.Quoted kind) ⊎ (f ≡ front.Raw kind) → row_of f bs ≡ dispatch bs →
     parsed_as (string_literal_of kind) ≡ dispatch bs
 string_row f kind bs (inl quoted) row = sym (ap (λ (g : Front). row_of g bs) quoted) ∙ row

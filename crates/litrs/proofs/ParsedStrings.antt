@@ -72,7 +72,7 @@ only_derivation kind t d = (d.1, λ e r. only_string kind t e d.0 r d.1)
 pub same_parts : (kind : StringKind) (bytes b : List ℕ) (d e : StringParts) → b ≡ bytes → IsString kind (chars bytes) d → IsString kind (chars b) e → e ≡ d
 same_parts kind bytes b d e same r s = only_string kind (chars b) e d s (subst (λ (t : List ℕ). IsString kind (chars t) d) (sym same) r)
 
--- what is said of a text and its derivation, of a copy of the text
+-- facts about a text and its derivation, for a copy of the text
 transported : (kind : StringKind) (P : List ℕ → StringParts → Type 0) (bytes b : List ℕ) (d e : StringParts) → b ≡ bytes →
     IsString kind (chars bytes) d → IsString kind (chars b) e → P bytes d → P b e
 transported kind P bytes b d e same r s p =

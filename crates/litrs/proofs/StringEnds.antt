@@ -23,7 +23,7 @@ use Rattle.litrs_lex.proofs.Dispatch.{dispatch-chars}
 use Rattle.litrs.proofs.Begins.{answer_is, begins_parsed}
 use Rattle.litrs.proofs.Fronts.{front_chars, front_taken}
 
--- what begins a string of the kind begins a literal, if the text is parsed as such a string
+-- a text that begins a string of the kind begins a literal, if it is parsed as such a string
 begins_string : (kind : StringKind) (t : List ℕ) →
     BeginsBy (IsString kind) t ↔ Begins (kind_parse (string_literal_of kind)) t
 begins_string string_kind t = back (begins_kind string_literal t)

@@ -1,4 +1,4 @@
--- Which words begin a literal.
+-- Words that begin a literal.
 use Rattle.std.proofs.Common.{◌≡◌, inl, inr, ◌<◌, ◌≤◌, ℕ, Bool, true, false, ltb, ◌&&◌, List, [], ◌∷◌, ◌++◌, length, refl, sym, ap, ◌∙◌, arith, ◌⊎◌, subst}
 use Rattle.std.specs.Prelude.{◌↔◌, ◌==◌, ◌||◌, codes, IsTrue, if◌then◌else◌}
 use Rattle.std.specs.List.{list_all}
@@ -100,7 +100,7 @@ long_word word long other = rw (
   shorter (codes "c") word (omega arith) long,
 ) refl
 
--- what begins as no literal is not `false`
+-- a text that does not begin as a literal is not `false`
 false_row : dispatch (bool_text false) ≡ parsed_as bool_literal
 unfolding dispatch
 false_row = refl

@@ -87,7 +87,7 @@ front_suc b bs n low f = record {
 pub ascii_from_test : (p : ℕ → Bool) (c : ℕ) → OnlyAscii p → p c ≡ true → c < 128
 ascii_from_test p c only passes = elim (cases_lt c 128) [ inl low ↦ low | inr high ↦ absurd (true≢false (sym passes ∙ only c high)) ]
 
--- how many characters pass from the front on is how many bytes do
+-- as many characters pass from the front on as bytes
 pub prefix_len-chars : (p : ℕ → Bool) (bs : List ℕ) → OnlyAscii p → IsUtf8 bs → prefix_len p (chars bs) ≡ prefix_len p bs
 prefix_len-chars p [] only u = ap (prefix_len p) chars-nil
 prefix_len-chars p (b ∷ bs) only u = elim (cases_lt b 128) [

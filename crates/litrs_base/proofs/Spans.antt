@@ -46,7 +46,7 @@ at_within t a c b place kind spells at_place =
     let room : 1 + byte_len b ≤ byte_len (c ∷ b) = byte_len-cons c b in
     record { front = a; rest = c ∷ b; cut = spells; start = sym at_place; in_order = omega arith; within = omega arith }
 
--- what holds of the one refusal, or of none
+-- facts about the refusal, if there is one
 pub of_some : (P : Refusal → Type 0) (e : Refusal) → P e → ForSome (Some e) P
 of_some P e here found h = subst P (let same : Some e ≡ Some found = h in let inside : e ≡ found = cc in inside) here
 

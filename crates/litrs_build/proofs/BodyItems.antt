@@ -143,7 +143,7 @@ pub slash_begins : (bytes : List ℕ) → IsUtf8 bytes → first_passes is_slash
     (is_empty (chars bytes) || first_passes is_slash (chars bytes)) ≡ true
 slash_begins bytes u e = starts_escape bytes u e
 
--- which escape the item is
+-- the escape that the item is
 escape_is : (w : Switches) (t : List ℕ) (item : Item) (after : List ℕ) →
     first_passes (λ c. c == 10) t ≡ false → 92 ∷ t ≡ item_text item ++ after →
     is_any_item w item ≡ true →

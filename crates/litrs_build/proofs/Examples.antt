@@ -1,4 +1,4 @@
--- Which error comes, which literals have the same value, and how literals are rewritten.
+-- Errors, literals with the same value, and literals that are rewritten.
 use Rattle.std.proofs.Common.{refl}
 use Rattle.std.specs.Prelude.{◌≡◌, Bool, List, [], ◌∷◌, Some, codes}
 use Rattle.std.specs.Fmt.{digits}

@@ -277,7 +277,7 @@ pub main_bytes : (d : IntegerParts) → IsInteger d → (main bytes : List ℕ) 
 main_bytes d h main bytes u of_main same = same
     ∙ bytes_of_digits d.base main d.main u of_main h.digits
 
--- Which suffixes an integer of the base may have.
+-- The suffixes that an integer of the base may have.
 
 pub some_integer : (base : IntegerBase) (suffix : List ℕ) → is_integer_suffix base suffix ≡ true →
     NoIntegerHasSuffix base suffix → ⊥

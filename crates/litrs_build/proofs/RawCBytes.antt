@@ -17,7 +17,7 @@ use Rattle.litrs_build.specs.Raw.{hashes_needed, is_raw_value, is_raw_c_value, o
 use Rattle.litrs_build.proofs.CTexts.{possible_by}
 use Rattle.litrs_build.proofs.RawTexts.{raw_bytes, raw_derives}
 
--- Which error
+-- The error
 
 same_by : (s : Bool) (o : Option BuildError) (u r : Bool) → s ≡ true → o ≡ None → u ≡ true →
     cond (not s) (Some NotASuffix) (cond r None (Some NotRaw)) ≡ or_not_raw o (u && r)

@@ -36,7 +36,7 @@ pub or_false : (a b : Bool) → (a || b) ≡ false → (a ≡ false) × (b ≡ f
 or_false true b e = absurd (true≢false e)
 or_false false b e = (refl, e)
 
--- Which spelling a character has
+-- The spelling of a character
 
 -- a character that has no short escape
 pub record IsOther (q c : ℕ) : Type 0 where

@@ -132,7 +132,7 @@ bool_fields fields is = (is.kind, is.number.has_value, is.number.value)
 
 -- Fields of a refusal
 
--- that of `b'é'`, whose character has two bytes
+-- the refusal of `b'é'`, whose character has two bytes
 final_fields : (fields : RefusalFields) →
     IsRefusalFields (record { span = Some (record { start = 2; end = 3 }); char_end = 4; kind = kind.NonAsciiInByteLiteral }) fields →
     (fields.kind ≡ 25) × (fields.is_final ≡ true) × (fields.is_open ≡ false) × (fields.has_span ≡ true)
@@ -163,7 +163,7 @@ written_short : (new : List ℕ) (len : ℕ) → IsWritten (codes "abc") (codes 
 unfolding computing
 written_short new len is = (is.len, is.room)
 
--- what is longer than the bytes keeps its end
+-- a room that is longer than the bytes keeps its end
 written_long : (new : List ℕ) (len : ℕ) → IsWritten (codes "a") (codes "xyz") new len → (len ≡ 1) × (new ≡ codes "ayz")
 unfolding computing
 written_long new len is = (is.len, is.room)
@@ -193,7 +193,7 @@ literal_written : (old new : List ℕ) (len : ℕ) (d : Derivation) (is : Writes
     IsUtf8 is.text × IsLiteral (chars is.text) d × (len ≡ length is.text)
 literal_written old new len d is = (is.utf8, is.literal, is.written.len)
 
--- Which numbers need memory
+-- Numbers that need memory
 
 -- that of `1_0.5`
 copied_float : IsCopied (a_float (record { integer = codes "1_0"; fraction = Some (codes "5"); exponent = []; suffix = [] }))

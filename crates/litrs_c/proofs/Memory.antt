@@ -13,6 +13,6 @@ pub lacks_memory : (t : List ℕ) (e : ParseError) → IsRefusedOrOutOfMemory li
 lacks_memory t e (inl refused) is = absurd (no_refusal_is_of_memory literal_parse t (refusal_of e) refused.table is)
 lacks_memory t e (inr memory) is = (e, memory)
 
--- what is out of memory is not refused
+-- a text that is out of memory is not refused
 pub out_of_memory_not_refused : OUT_OF_MEMORY ≡ REFUSED → ⊥
 out_of_memory_not_refused = search rules

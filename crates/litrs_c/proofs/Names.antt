@@ -42,7 +42,7 @@ pub token_unknown : (n : ℕ) → (n ≡ 0) ⊎ (14 < n) → name_at token_names
 token_unknown n (inl is) = ap (λ (i : ℕ). name_at token_names i) is
 token_unknown n (inr past) = get_or_past token_names n unknown_name (omega (arith, past))
 
--- what a static text at a place of a table says
+-- the contents of a static text at a place of a table
 pub text_at : (texts : List (Bor (List ℕ))) (n : ℕ) (d : Bor (List ℕ)) → n < length texts →
     (get_or texts n d).now ≡ get_or (map (λ (b : Bor (List ℕ)). b.now) texts) n d.now
 text_at texts n d within = sym (get_or-map (λ (b : Bor (List ℕ)). b.now) texts n d d.now within)

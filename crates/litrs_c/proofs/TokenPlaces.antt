@@ -30,7 +30,7 @@ start_rest text rest end =
     ap (λ (n : ℕ). drop n text) (start_is text rest end)
     ∙ (ap (λ (l : List ℕ). drop (length end.0) l) (sym end.1) ∙ drop-append_seam end.0 rest)
 
--- what follows a token is the end of the text
+-- the text after a token is the end of the text
 pub ends_text : (text : List ℕ) (at : ℕ) (token : Token) (rest : List ℕ) → IsFirstToken text (drop at text) token rest → IsEndOf text rest
 ends_text text at token rest first = (
   take at text ++ token.text.now,

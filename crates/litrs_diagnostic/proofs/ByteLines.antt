@@ -98,7 +98,7 @@ IsStripped bs r = MatchOption r (FindsCharSuffix 13 bs None)
     (λ x. (n : ℕ) × FindsCharSuffix 13 bs (Some n) × (x.now ≡ take (length bs - n) bs) ×
     (length x.now + n ≡ length bs))
 
--- what the first line is, and that it is a front of the text
+-- the first line, which is a front of the text
 pub record IsFirstLine (bs out : List ℕ) : Type 0 where
   pub line : chars out ≡ first_line (chars bs)
   pub front : (rest : List ℕ) × (bs ≡ out ++ rest)

@@ -7,7 +7,7 @@ use Rattle.std.proofs.lemmas.Str.{chars-append, IsUtf8-append, IsUtf8-between, I
 use Rattle.litrs_diagnostic.specs.Position.{last_line}
 use Rattle.litrs_diagnostic.specs.Line.{Line, first_line, place_on_line, start_line, end_line, start_line_at, end_line_at}
 
--- what is after the start of the range: the range, and what is after its end
+-- the text after the start of the range: the range, and the text after its end
 pub record IsCutAtEnd (bs : List ℕ) (start end : ℕ) : Type 0 where
   pub whole : drop start bs ≡ slice_range bs start end ++ drop end bs
   pub characters : chars (drop start bs) ≡ chars (slice_range bs start end) ++ chars (drop end bs)

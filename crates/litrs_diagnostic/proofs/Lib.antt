@@ -1,18 +1,18 @@
 -- the first and the last line of a text
 pub mod TextLines
--- how the starts of lines follow one another
+-- the starts of lines follow one another
 pub mod LineStarts
 -- the same in its bytes
 pub mod ByteLines
--- what is written in turn
+-- texts that are written in turn
 pub mod Encodes
--- how wide a character is shown
+-- the width of a character that is shown
 pub mod Widths
 -- as many characters as are shown in a width
 pub mod Within
--- whether that is all of the text
+-- texts that are shown whole
 pub mod Shorter
--- how many digits a number has
+-- the number of digits of a number
 pub mod Digits
 -- a text that is cut at both ends of a range
 pub mod Cuts
@@ -22,5 +22,5 @@ pub mod Written
 pub mod RemarkLines
 -- the bytes of rows
 pub mod RowLines
--- that it is printable
+-- the text that is shown is printable
 pub mod Clean

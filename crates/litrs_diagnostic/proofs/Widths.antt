@@ -163,7 +163,7 @@ escape_width c other hidden =
     sym (ap columns (escape_is_shown c other hidden)
     ∙ plain_columns (escape_unicode c) (plain_escape c))
 
--- how many characters an escape has
+-- the number of characters of an escape
 pub escape_count : (s : _) (count : ℕ) → (xs : List ℕ) × Drains escape_steps s xs ×
     (count ≡ length xs) → count ≡ length (escape_rest s)
 escape_count s count ran =

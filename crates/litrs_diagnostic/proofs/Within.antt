@@ -73,7 +73,7 @@ taken_boundary width left text front rest done now =
     let len : length front ≡ length text - length rest = omega (arith, sum) in
     subst (IsCharBoundary text) len (IsCharBoundary-at_seam text front rest now.bytes now.utf8)
 
--- what the rest leaves of the text
+-- the text without the rest
 pub record IsPrefix (width left : ℕ) (text rest : List ℕ) : Type 0 where
   pub prefix : chars (take (length text - length rest) text) ≡ prefix_within width (chars text)
   pub remains : left ≡ width - columns (shown (chars (take (length text - length rest) text)))

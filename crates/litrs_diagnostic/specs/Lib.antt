@@ -1,6 +1,6 @@
 -- lines and columns
 pub mod Position
--- where the lines of a text start
+-- the starts of the lines of a text
 pub mod Lines
 -- printable characters
 pub mod Printable

@@ -5,7 +5,7 @@ use Rattle.std.proofs.lemmas.Result.{on_ok_weaker}
 use Rattle.std.proofs.lemmas.List.{take-append-drop}
 use Rattle.litrs_explanation.specs.Appended.{appended, Appends}
 
--- what is appended is also such text
+-- appended text is also such text
 pub appended_as : {T E : Type 0} (old new : List ℕ) (r : Result T E) (Was Is : List ℕ → Type 0) →
     ((added : List ℕ) → Was added → Is added) → Appends old new r Was → Appends old new r Is
 appended_as old new r Was Is then (added, made, was) =
@@ -21,7 +21,7 @@ then_appended old middle new first r Was Is before then (added, made, was) = (
   on_ok_weaker r (then added) was,
 )
 
--- what is appended, by its place
+-- the appended text, by its place
 pub follows : (old new : List ℕ) → take (length old) new ≡ old → new ≡ old ++ appended old new
 follows old new kept =
     sym (take-append-drop (length old) new) ∙ ap (λ (x : List ℕ). x ++ appended old new) kept

@@ -30,7 +30,7 @@ use Rattle.litrs_value.specs.FloatValue.{float_value}
 use Rattle.litrs_value.specs.Values.{format_of}
 use Rattle.ryu.specs.Plain.{IsPlainNumber}
 
--- what the kind is called
+-- the name of the kind
 abbrev pub kind_name : Derivation → List ℕ
 kind_name (a_bool b) = codes "bool"
 kind_name (an_integer d) = codes "integer"

@@ -2,7 +2,7 @@
 pub mod Explanation
 -- text that is appended to a buffer
 pub mod Appended
--- what holds of all literals
+-- facts about all literals
 pub mod Laws
 -- The words of the contracts, so that users name this crate alone
 pub use Rattle.litrs_grammar.specs.Integer

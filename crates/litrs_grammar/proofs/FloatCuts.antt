@@ -51,7 +51,7 @@ pub fraction_stops : (f : Option (List ℕ)) (p x : List ℕ) → is_exponent_fr
 fraction_stops None p x front stop = exponent_stops p x front stop
 fraction_stops (Some f) p x front stop = refl
 
--- what follows the digits and `_` in front
+-- the text after the digits and `_` in front
 pub after_decimals : (d : FloatParts) → IsCut d →
     drop (prefix_len is_decimal_char (float_text d)) (float_text d) ≡ fraction_text d.fraction ++ (d.exponent ++ d.suffix)
 after_decimals d cut =
@@ -59,7 +59,7 @@ after_decimals d cut =
     drop_at d.integer r (prefix_len is_decimal_char (d.integer ++ r))
     (sym (prefix_len_front is_decimal_char d.integer r cut.integer (fraction_stops d.fraction d.exponent d.suffix cut.exponent cut.stops)))
 
--- what each part takes
+-- the characters that each part takes
 
 fraction_none : (p x : List ℕ) → is_exponent_front p ≡ true → (p ≡ [] → first_passes is_period x ≡ false) → fraction_of (p ++ x) ≡ None
 fraction_none [] [] front no_period = refl

@@ -46,7 +46,7 @@ last_not p [] h g = cc
 last_not p (c ∷ []) h g = both_ways _ (not-true _ (and_parts (not (p c)) _ h).0) g
 last_not p (c ∷ d ∷ t) h g = last_not p (d ∷ t) (and_parts (not (p c)) _ h).1 g
 
--- what begins a text without LF does not end with LF
+-- the beginning of a text without LF does not end with LF
 pub no_line_feed_last : (t x : List ℕ) → list_all is_other (t ++ x) ≡ true → last_passes is_line_feed t ≡ true → ⊥
 no_line_feed_last t x h feed = last_not is_line_feed t (and_parts _ _ (sym (all-append is_other t x) ∙ h)).0 feed
 

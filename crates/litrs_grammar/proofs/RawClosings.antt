@@ -33,7 +33,7 @@ first_closings_stay n t more some =
     ap (length_before (raw_closing n)) (sym longer) ∙ length_before-body n cut.before (cut.after ++ more) cut.unclosed
     ∙ sym (length_before-body n cut.before cut.after cut.unclosed) ∙ ap (length_before (raw_closing n)) cut.spells
 
--- what is dropped from a text is dropped from a longer one
+-- characters dropped from a text are dropped from a longer one
 drop_longer : (k : ℕ) (t more : List ℕ) → is_empty (drop k t) ≡ false → drop k (t ++ more) ≡ drop k t ++ more
 drop_longer zero t more some = refl
 drop_longer (suc k) [] more some = cc

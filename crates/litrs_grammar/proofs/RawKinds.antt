@@ -42,7 +42,7 @@ same_first c_string_kind byte_string_kind e = absurd (omega arith)
 same_kind : (k l : StringKind) (s t : List ℕ) → raw_front k ++ s ≡ raw_front l ++ t → k ≡ l
 same_kind k l s t e = same_first k l (sym (front_first k s) ∙ (ap (λ x. get_or x 0 0) e ∙ front_first l t))
 
--- what follows the front
+-- the text after the front
 pub after_front : (kind : StringKind) (s t : List ℕ) (d : RawParts) → raw_front kind ++ s ≡ t → IsRawLiteral kind t d → IsRawOf (has_unicode kind) (allows_nul kind) s d
 after_front kind s t d spells r = record { spells = append_cancel_left (raw_front kind) (raw_text d) s (r.spells ∙ sym spells); grammar = r.grammar }
 

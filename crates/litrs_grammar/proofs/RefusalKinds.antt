@@ -31,7 +31,7 @@ abbrev is_of_text : ParseErrorKind → Bool
 is_of_text OutOfMemory = false
 is_of_text _ = true
 
--- what a table gives is of another kind
+-- the refusal that a table gives has another kind
 abbrev is_fine : Option Refusal → Bool
 is_fine None = true
 is_fine (Some e) = is_of_text e.kind

@@ -115,7 +115,7 @@ escape_row kind bs e begins r =
       char_span = r.char_span;
     }
 
--- what an escape gives is a character or a byte, as the kind has it
+-- the value of an escape is a character or a byte, by the kind
 simple_ascii : (c : ℕ) → is_simple c ≡ true → unwraps_as char_kind (escape_value (simple_escape c)) ≡ true
 simple_ascii c h = by_simple (λ n. unwraps_as char_kind (escape_value (simple_escape n)) ≡ true) c h refl refl refl refl refl refl refl
 
@@ -216,7 +216,7 @@ wide_item bs b c t len u begins high same size =
     item_read char_kind bs (plain_char c) t (Unicode c) len u same
     (is_plain char_kind c (ne_eqb c 39 (λ e. omega arith)) (ne_eqb c 92 (λ e. omega arith)) (wide_special c wide) refl) refl refl (sym size)
 
--- what follows the item decides
+-- the text after the item decides
 pub after_item : (kind : CharKind) (bs : List ℕ) (value : Unescape) (len : ℕ) → IsUtf8 bs → IsItemRead kind bs value len →
     char_item_refusal kind (chars bs) ≡ closing_refusal kind len (chars (drop len bs))
 after_item kind bs value len u r =
@@ -334,7 +334,7 @@ char_refused kind bs rest e f fr r is_moved ends =
     (subst (λ (t : List ℕ). HasCharSpan t f) (sym fr.characters)
     (char_span_moved (char_front kind) (chars rest) e f (is_moved ∙ ap (λ n. shifted n (refusal_of e)) (sym (front_size kind))) (ends ∙ ap (λ n. shifted_span n (char_span_of e)) (sym (front_size kind))) r.char_span))
 
--- what is written so
+-- texts that are written so
 inner_written : (inner : List ℕ) → take (length (92 ∷ 117 ∷ 123 ∷ (inner ++ 125 ∷ [])) - 4) (inner ++ 125 ∷ []) ≡ inner
 inner_written inner =
     let size : length (92 ∷ 117 ∷ 123 ∷ (inner ++ 125 ∷ [])) - 4 ≡ length inner = let e = length-append inner (125 ∷ []) in omega arith in
@@ -415,7 +415,7 @@ wide_some bs b u begins high none =
 pub slash_begins : (bs : List ℕ) → IsUtf8 bs → begins_with (92 ∷ []) bs ≡ true → (is_empty (chars bs) || first_passes (λ c. c == 92) (chars bs)) ≡ true
 slash_begins bs u begins = ap (λ t. is_empty t || first_passes (λ c. c == 92) t) (front_chars bs 92 (omega arith) (front_byte bs 92 begins))
 
--- what `unescape` answers is what the item is
+-- the answer of `unescape` is the item
 pub ok_escape : (kind : CharKind) (bs : List ℕ) (w : Switches) (r : Result (Unescape × ℕ) ParseError) →
     w ≡ char_switches_of kind → IfOk r (λ read. IsUnescaped w bs read.0 read.1) →
     IfOk r (λ read. IsItemRead kind bs read.0 read.1)
@@ -431,7 +431,7 @@ err_escape kind bs w (Err e) is begins refused = escape_row kind bs e begins (su
 pub one_size : (c n : ℕ) → n ≡ len_utf8 c → n ≡ byte_len (c ∷ [])
 one_size c n is = is ∙ (sym (length-encode c) ∙ sym (ap length (append-nil (encode_utf8 c))))
 
--- where the suffix starts lies within the text
+-- the suffix starts within the text
 pub start_within : (kind : CharKind) (bs : List ℕ) (value : Unescape) (start : ℕ) → IsUtf8 bs → IsCutAfter kind bs value start → start ≤ length bs
 start_within kind bs value start u r =
     let text = char_item_text r.item in

@@ -276,7 +276,7 @@ six_digits value count small few =
 
 -- Escapes of two hex digits
 
--- what two bytes that are characters are
+-- the values of two bytes that are characters
 two_by : (a b : List ℕ) → byte_len a ≡ 2 → has_two_bytes (a ++ b) ≡ true
 two_by [] b two = absurd (omega arith)
 two_by (c ∷ []) [] two = eq-eqb _ _ two

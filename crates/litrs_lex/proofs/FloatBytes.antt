@@ -248,7 +248,7 @@ pub empty_by_length : (bs : List ℕ) → eqb (length bs) 0 ≡ is_empty bs
 empty_by_length [] = refl
 empty_by_length (b ∷ bs) = ne_eqb (suc (length bs)) 0 (λ e. omega arith)
 
--- which row decides
+-- the row that decides
 
 pub row_wrong_fraction : (i f n len : ℕ) (kind : ParseErrorKind) (wrong digit suffix integer : Bool) → wrong ≡ true →
     rows_by i f n len kind wrong digit suffix integer ≡ Some (at_byte (i + 1) UnexpectedChar)

@@ -146,7 +146,7 @@ same_kind c_string_kind string_kind row = cc
 same_kind c_string_kind byte_string_kind row = cc
 same_kind c_string_kind c_string_kind row = refl
 
--- whether it is the row of a kind of strings
+-- `true` if it is the row of a kind of strings
 abbrev is_string_row : Dispatch → Bool
 is_string_row (refused_as refusal) = false
 is_string_row (parsed_as bool_literal) = false

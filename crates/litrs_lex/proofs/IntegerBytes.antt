@@ -242,11 +242,11 @@ refusal_of_main cut bs u h =
     (list_any is_no_underscore (slice_range bs cut.start_main cut.end_main)))
     (sym (first_passes-chars is_ascii_digit (drop cut.end_main bs) digit_is_ascii utf8))
 
--- what the code needs of the cut
+-- the facts about the cut that the code needs
 pub within_bytes : (bs : List ℕ) → IsUtf8 bs → (start_of bs ≤ length bs) × (start_of bs + run_of bs ≤ length bs)
 within_bytes bs u = ((prefix_front bs u).within, (number_front bs u).within)
 
--- what the code computes of the bytes is a cut
+-- the code computes a cut from the bytes
 pub digits_cut_made : (bs bytes front : List ℕ) (base : IntegerBase) (n : ℕ) → IsUtf8 bs → bytes ≡ bs → base ≡ base_of bytes → front ≡ prefix base →
     n ≡ prefix_len (is_digit_or_underscore base) (take (length bytes - length front) (drop (length front) bytes)) →
     IsDigitsCut (record { start_main = length front; end_main = length front + n; base = base }) bs

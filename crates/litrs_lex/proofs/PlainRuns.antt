@@ -64,7 +64,7 @@ wide_case p h c cs run b alike is rec wide =
     by false a = a
     by true a = a ∙ (ap (λ n. length (encode_utf8 c) + n) rec ∙ sym (length-append (encode_utf8 c) (encode_utf8_all run)))
 
--- how many bytes pass is how many the characters have that pass
+-- as many bytes pass as the characters that pass have
 pub run_len : (p : ℕ → Bool) (h : Bool) → AlikeFrom128 p h → (cs : List ℕ) → prefix_len p (encode_utf8_all cs) ≡ byte_len (take_while p cs)
 run_len p h alike [] = refl
 run_len p h alike (c ∷ cs) =

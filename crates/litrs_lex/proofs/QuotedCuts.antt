@@ -99,7 +99,7 @@ ends_here w bytes rest offset place h e read stops is told = record {
   ends = inr (_, ap (λ (l : List ℕ). item_refusal w (chars l)) (sym is) ∙ told.table);
 }
 
--- what follows a body that is read begins with the quote
+-- the text after a body that is read begins with the quote
 pub at_quote : (w : Switches) (bytes rest : List ℕ) (offset place : ℕ) (h : List ℕ → Type 0) → IsUtf8 bytes → IsReadBody w bytes offset h place → rest ≡ drop place bytes →
     IsUtf8 rest × (first_passes (λ c. c == 34) (chars rest) ≡ true)
 at_quote w bytes rest offset place h u b is = (
@@ -142,7 +142,7 @@ size_test w items v n body is_value is_text =
     by true is law = ap not (ne_eqb v n (λ e. true≢false (sym is ∙ law.0 (omega arith))))
     by false is law = ap not (eq-eqb v n (let same = law.1 is in omega arith))
 
--- what a slice holds whose characters are these
+-- the bytes of a slice whose characters are these
 pub record IsSlice (bytes : List ℕ) (from : ℕ) (t : List ℕ) : Type 0 where
   pub is_bytes : take (byte_len t) (drop from bytes) ≡ encode_utf8_all t
   pub is_chars : chars (take (byte_len t) (drop from bytes)) ≡ t

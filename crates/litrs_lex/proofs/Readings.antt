@@ -18,7 +18,7 @@ use Rattle.litrs_lex.specs.declared.stop.Stop.TheVariants as stop
 use Rattle.litrs_lex.proofs.QuotedCuts.{slice_of}
 use Rattle.litrs_lex.proofs.QuotedScan.{ReadsSome, reads_run, reads_item, reads_start, boundary_later}
 
--- what is read so far, without what holds it
+-- the items read so far, without their container
 some : (w : Switches) (bytes : List ℕ) (offset at : ℕ) (h : List ℕ → Type 0) → (r : IsReadTo w bytes offset at h) →
     ReadsSome w (chars (take offset bytes)) (chars bytes) (chars (drop at bytes)) at (body_value r.items)
 some w bytes offset at h r = record {
@@ -148,7 +148,7 @@ pub quote_of : (w : Switches) (bytes rest : List ℕ) (place : ℕ) {s : Stop} �
     first_passes (λ c. c == 34) (chars (drop place bytes)) ≡ true
 quote_of w bytes rest place is at h = subst (λ (l : List ℕ). first_passes (λ c. c == 34) (chars l) ≡ true) at (subst (λ (x : Stop). StandsAt w rest x) is h)
 
--- what may be pushed if byte escapes are on may be pushed into what takes bytes
+-- an item that may be pushed if byte escapes are on may be pushed into a container that takes bytes
 fits_container : (bytes takes : Bool) (v : Unescape) → (not bytes || takes) ≡ true → is_pushable bytes v ≡ true → is_pushable takes v ≡ true
 fits_container false false v h g = g
 fits_container false true (Byte b) h g = refl

@@ -31,7 +31,7 @@ run_from p q part (c ∷ t) = go (q c) refl (run_from p q part t)
     go true e rec = if_true (p c) (after_while p t) (c ∷ t) (part.alike c (ascii_from_test q c part.ascii e) ∙ e) ∙ (rec ∙ ap (after_while p) (sym (skip_more c (prefix_len q t) t)))
     go false e rec = refl
 
--- where the text is cut after the ASCII characters
+-- the place at which the text is cut after the ASCII characters
 run_cut : (p q : ℕ → Bool) → IsAsciiPart p q → (bs : List ℕ) (n : ℕ) → IsUtf8 bs → n ≡ prefix_len q bs → IsCharBoundary bs n × (after_while p (chars (drop n bs)) ≡ after_while p (chars bs))
 run_cut p q part bs n u is =
     let m : ℕ = prefix_len q bs in

@@ -37,7 +37,7 @@ no_trivia k t rest is trivia h =
     let other = bracket_token t h in
     true≢false (sym trivia ∙ ap is_trivia (unique_tokens t k Punctuation rest other.0 is other.1).0)
 
--- what is skipped may be left out
+-- a token that is skipped may be left out
 pub skip_back : (k : TokenKind) (t rest : List ℕ) → IsToken k t rest → is_trivia k ≡ true → OpensAttribute t → OpensAttribute rest
 skip_back k t rest is trivia h = elim (first h) [
   | inl b ↦ absurd (no_trivia k t rest is trivia b)

@@ -127,7 +127,7 @@ opening c t h k =
     seven (is_ascii_digit c) (c == 34) ((c == 39) && not (begins_lifetime t)) ((c == 114) && opens_raw t) ((c == 98) && opens_bytes t) ((c == 99) && opens_c_string t)
     (is_bool (first_name (c ∷ t))) h k
 
--- what follows the name is a quote or a hash
+-- a quote or a hash follows the name
 
 stop_at : (d : ℕ) (u : List ℕ) → is_xid_continue d ≡ false → is_quote_or_hash d ≡ true → first_passes is_quote_or_hash (after_run (d ∷ u)) ≡ true
 stop_at d u stops is = rw stops is

@@ -81,7 +81,7 @@ bool_token_of t rest h after ends =
     let b = some_bool (first_name t) h in
     bool_token t rest (first_name t) b.0 refl (sym b.1) after ends
 
--- what follows a name
+-- the text after a name
 pub name_rest : (c : ℕ) (t after rest : List ℕ) → t ≡ c ∷ after → starts_identifier c ≡ true → rest ≡ after_run after → rest ≡ after_name t
 name_rest c t after rest is name run = run ∙ sym (ap after_name is ∙ if_true (starts_identifier c) (after_run after) (c ∷ after) name)
 

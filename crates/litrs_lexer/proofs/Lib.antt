@@ -14,7 +14,7 @@ pub mod Classes
 pub mod Unique
 -- tokens that more text changes, and those that stay
 pub mod MayChange
--- what precedes the tokens of a file
+-- the text before the tokens of a file
 pub mod Attributes
 -- lists of tokens
 pub mod Spelled

@@ -288,7 +288,7 @@ open_stays MalformedLiteral t rest k is some = absurd (true≢false k)
 open_stays Punctuation t rest k is other = stays_one Punctuation t rest is (λ m text. punctuation_stays t rest m is other)
 open_stays Unknown t rest k is some = stays_one Unknown t rest is (λ m text. unknown_stays t rest m is)
 
--- what changes
+-- changes of tokens
 
 abbrev x : List ℕ
 x = 120 ∷ []

@@ -19,7 +19,7 @@ while_run p [] [] all stops = refl
 while_run p [] (c ∷ rest) all stops = rw stops refl
 while_run p (c ∷ run) rest all stops = let both = and_parts (p c) (list_all p run) all in rw both.0 (while_run p run rest both.1 stops)
 
--- where a text is cut after the bytes at its front that pass
+-- the place at which a text is cut after the bytes at its front that pass
 pub run_cut : (p : ℕ → Bool) (h : Bool) (bs : List ℕ) (n : ℕ) → AlikeFrom128 p h → IsUtf8 bs → n ≡ prefix_len p bs → IsCharBoundary bs n × (chars (drop n bs) ≡ after_while p (chars bs))
 run_cut p h bs n alike u is =
     let r = char_run p h alike bs u in

@@ -9,11 +9,11 @@ pub mod Literal
 pub mod Punctuation
 -- the tokens of a text, one after the other
 pub mod Tokens
--- what more text may change
+-- tokens that more text may change
 pub mod MayChange
--- what precedes the tokens of a file
+-- the text before the tokens of a file
 pub mod Shebang
--- what holds of all tokens
+-- facts about all tokens
 pub mod Laws
--- how the code cuts a text
+-- the cuts of the code
 pub mod Cut

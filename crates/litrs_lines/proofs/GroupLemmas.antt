@@ -18,7 +18,7 @@ finished_is_not : (t : List ℕ) → IsFinished t → IsUnfinished t → ⊥
 finished_is_not t (inl d) more = more.0 d.0 d.1
 finished_is_not t (inr none) more = none more.1
 
--- what some line ends and leaves
+-- the groups that some line ends, and the lines that it leaves
 abbrev LineHasEnds : (held line : List ℕ) → Type 0
 LineHasEnds held line = (texts : List (List ℕ)) × (left : List ℕ) × LineEnds held line texts left
 
@@ -102,7 +102,7 @@ compare_fronts (x ∷ front) after (y ∷ other) after' is =
       | inr longer ↦ inr (longer.0, (λ i. sym head i ∷ longer.1 i), longer.2)
     ]
 
--- what holds of all holds of the first after a front
+-- a fact about all is one about the first after a front
 of_next : (P : List ℕ → Type 0) (front : List (List ℕ)) (line : List ℕ) (rest : List (List ℕ)) → All P (front ++ line ∷ rest) → P line
 of_next P [] line rest all = All-head P line rest all
 of_next P (x ∷ front) line rest all = of_next P front line rest (All-tail P x (front ++ line ∷ rest) all)

@@ -11,7 +11,7 @@ use Rattle.hex.specs.Hex.{IsBytes, encode_lower, encode_with, lower_digits}
 use Rattle.hex.proofs.HexLemmas.{IsAscii-encode_with}
 use Rattle.litrs_lines.specs.Report.{hex_byte, hex_bytes}
 
--- whether the first n digits are the same
+-- `true` if the first n digits are the same
 same_digits : ℕ → Bool
 same_digits zero = true
 same_digits (suc n) = (slice_index lower_digits n == digit_char n) && same_digits n

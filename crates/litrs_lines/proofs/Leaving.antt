@@ -9,7 +9,7 @@ use Rattle.litrs_lines.specs.Report.{hex_bytes}
 use Rattle.litrs_lines.specs.Stopped.{AppendsBeginning}
 use Rattle.litrs_lines.proofs.Sending.{SendsHex, sends_piece, adds, sends_more, writes_nothing, stops_later, stops_longer}
 
--- what may be left, and the bytes
+-- the state that may be left, and the bytes
 abbrev Adding : Type 1
 Adding = List ℕ → List ℕ → Type 0
 
@@ -111,7 +111,7 @@ module _ {O : Type 0} (contents : O → Option (List ℕ)) (has_failed write_fai
   leaves_then_bytes r old mid new P R bytes are one two = leaves_then r old mid new P (AreBytes mid.collector.now bytes) R
       (λ out left more first last. subst (λ (l : List ℕ). R l (out ++ more)) (sym last.0) (subst (λ (m : List ℕ). R mid.collector.now (out ++ m)) (sym last.1) (are out first))) one two
 
-  -- what was added is written
+  -- the added bytes are written
   pub leaves_written : (r : Result (Unit {0}) RunError) (old mid new : Reporter O) (P : Adding) → Left (Ok tt) old mid P → Left r mid new (AreBytes mid.collector.now []) → Left r old new P
   leaves_written r old mid new P one two =
       leaves_then_bytes r old mid new P P [] (λ out is. subst (λ (o : List ℕ). P mid.collector.now o) (sym (append-nil out)) is) one two

@@ -381,7 +381,7 @@ module _ {left_old left contents_old contents : Option (List ℕ)} {line held : 
     few = let before = run.few in omega (arith, length-append run.taken piece);
   }
 
-  -- what was written is a prefix of the whole
+  -- the written bytes are a prefix of the whole
   writes_prefix : (contents_new : Option (List ℕ)) (bytes more whole : List ℕ) → AppendsBeginning contents contents_new bytes
       → whole ≡ run.so_far ++ (bytes ++ more) → AppendsBeginning contents_old contents_new whole
   writes_prefix contents_new bytes more whole part is =
@@ -447,7 +447,7 @@ module _ {left_old left contents_old contents : Option (List ℕ)} {line held : 
         appends = Appends-trans contents_old contents contents_new run.so_far out run.writes writes;
       })
 
--- what is the same has the same value
+-- equal bytes have the same value
 pub same_of : {A B : Type 0} (f : A → B) (a b : A) (v : B) → a ≡ b → f b ≡ v → f a ≡ v
 same_of f a b v same is = ap f same ∙ is
 
@@ -590,7 +590,7 @@ All-after : (front rest : List ℕ) → All NoCr (front ++ rest) → All NoCr re
 All-after [] rest all = all
 All-after (b ∷ front) rest all = All-after front rest (All-tail NoCr b (front ++ rest) all)
 
--- what holds of each byte holds of each of each part
+-- a fact about each byte is one about each byte of each part
 each_part : (parts : List (List ℕ)) (last : List ℕ) → All NoCr (spelled parts last) → All (All NoCr) parts
 each_part [] last all = All-nil (All NoCr)
 each_part (part ∷ parts) last all =

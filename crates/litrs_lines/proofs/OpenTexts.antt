@@ -1,4 +1,5 @@
--- Which texts begin a literal with an LF after them. No text is a literal whose body is open at its end.
+-- Texts that begin a literal with an LF after them. A text whose body is open at its end is not a
+-- literal.
 use Rattle.std.proofs.Common.{◌≡◌, ◌∙◌, ◌⊎◌, inl, inr, ℕ, zero, suc, ◌+◌, ◌≤◌, Bool, true, false, not, ◌&&◌, ◌||◌, List, [], ◌∷◌, ◌++◌, length, drop, Some, refl, sym, ap, subst, append_assoc, append-nil}
 use Rattle.std.specs.Prelude.{◌==◌, codes, if◌then◌else◌}
 use Rattle.std.specs.List.{list_all}

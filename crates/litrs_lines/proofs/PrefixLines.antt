@@ -20,7 +20,7 @@ use Rattle.litrs_lines.specs.Steps.{BeginsByLine}
 use Rattle.litrs_lines.proofs.OpenTexts.{not_nothing}
 use Rattle.litrs_lines.proofs.StepLemmas.{chars-line_feed, lines_are_utf8}
 
--- what follows an LF does not decide whether the text before it may follow a literal
+-- the text after an LF does not decide whether the text before it may follow a literal
 follows_to_line_feed : (d : Derivation) (s x y : List ℕ) → may_follow d (s ++ 10 ∷ x) ≡ may_follow d (s ++ 10 ∷ y)
 follows_to_line_feed (a_bool b) [] x y = refl
 follows_to_line_feed (a_bool b) (c ∷ s) x y = refl

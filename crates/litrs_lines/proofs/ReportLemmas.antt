@@ -116,7 +116,7 @@ pub appended_four :
 appended_four a p q r s b c d e one two three four =
     appended a p (q ++ (r ++ s)) b e one (appended b q (r ++ s) c e two (appended c r s d e three four))
 
--- what a call leaves if it succeeds
+-- the state that a call leaves if it succeeds
 pub left_by :
     {T E : Type 0} (r : Result T E) (left there before : List ℕ) →
     left ≡ (if is_ok r then there else before) → OnOk r (left ≡ there)

@@ -9,7 +9,7 @@ use Rattle.litrs_lines.specs.Report.{hex_byte, hex_bytes}
 use Rattle.litrs_lines.specs.Sent.{Sends, AreBytes}
 use Rattle.litrs_lines.specs.Stopped.{AppendsBeginning}
 
--- what is added, and not yet written
+-- bytes that are added, and not yet written
 pub adds : (old : Option (List ℕ)) (unwritten more added : List ℕ) → more ≡ unwritten ++ added →
     Sends old unwritten old more added
 adds old unwritten more added is =

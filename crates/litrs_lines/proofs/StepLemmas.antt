@@ -33,7 +33,7 @@ use Rattle.litrs_lines.specs.Held.{Extends, IsHeld}
 use Rattle.litrs_lines.specs.Steps.{BeginsByLine, IsUnfinished, IsReadAs, IsLiteralStep, IsStep, held_after, Feeds, Pushes}
 use Rattle.litrs_lines.specs.StepLaws.{StepsAreDecided, StepsAreUnique}
 
--- what holds anyway holds on an error
+-- a fact that always holds also holds on an error
 pub OnErr-holds : {T E : Type 0} {P : Type 0} (r : Result T E) → P → OnErr r P
 OnErr-holds (Ok _) p = tt
 OnErr-holds (Err _) p = p
@@ -105,7 +105,7 @@ open_begins t e (inl refused) opened =
     (closing_of t (refusal_of e), a_string_of closed.kind closed.parts, closing_text_is_text t (kind_of e), closed.literal)
 open_begins t e (inr lack) opened = absurd (false≢true (sym (ap (λ (r : Refusal). is_open r.kind) lack.error) ∙ opened))
 
--- what is held after a step
+-- the text that is held after a step
 step_is_held : (t held : List ℕ) (step : Step) → IsStep t step → held ≡ held_after t step → IsHeld held
 step_is_held t held More is after = line_is_held t held after is
 step_is_held t held (Literal lit) is after = nothing_is_held held after
@@ -132,7 +132,7 @@ pub final_shuts : (t : List ℕ) (e : ParseError) → IsRefused literal_parse (c
 final_shuts t e refused final line =
     refused.final final (10 ∷ line.0) line.1 (subst (λ (u : List ℕ). IsLiteralOf literal_parse u line.1) (append_assoc (chars t) (10 ∷ []) line.0) line.3)
 
--- what a line leaves that is pushed, as what one leaves that is fed
+-- a line that is pushed leaves the same text as one that is fed
 pub feeds_more : (old line new : List ℕ) (goes_on : Bool) → IsUtf8 (old ++ line) → Pushes old line new goes_on → goes_on ≡ true → Feeds (old ++ line) new More
 feeds_more old line new goes_on u pushed is = let p = pushed.more is in record { utf8 = u; is = p.0; after = p.1 }
 
@@ -161,7 +161,7 @@ feeds_literal old line lit (Literal owned) none u raw only is =
 feeds_literal old line lit More none u raw only is = absurd is
 feeds_literal old line lit (Refused e) none u raw only is = absurd is
 
--- what is fed, by parts
+-- the text that is fed, by parts
 
 pub fed_is : {E : Type 0} (t new : List ℕ) (r : Result Step E) → IfOk r (Feeds t new) → IfOk r (IsStep t)
 fed_is t new (Ok step) fed = fed.is
@@ -184,7 +184,7 @@ popped bytes front left n len is pops =
     let last : slice_index bytes (n - 1) ≡ 10 = ap (λ (i : ℕ). slice_index bytes i) place ∙ ap (λ (x : List ℕ). slice_index x (length front)) (sym is) ∙ get_or-append_seam front 10 [] _ in
     pops (omega arith) (omega arith) ∙ ap (λ (i : ℕ). take i bytes) place ∙ ap (take (length front)) (sym is) ∙ take-append_seam front (10 ∷ [])
 
--- what is held without its last character: the lines
+-- the held text without its last character: the lines
 pub lines_of_held : (held left : List ℕ) (n m : ℕ) → IsHeld held → n ≡ length held → m < n →
     (0 < n → slice_index held (n - 1) < 128 → left ≡ take (n - 1) held) → (left ++ 10 ∷ [] ≡ held) × HasNoDerivation (IsLiteral (chars left))
 lines_of_held held left n m is len some pops =
@@ -201,7 +201,7 @@ may_be_cut old new len longer is =
 line_feed_is_utf8 : IsUtf8 (10 ∷ [])
 line_feed_is_utf8 = IsUtf8-from_ascii (10 ∷ []) (ascii_by_test (10 ∷ []) refl)
 
--- what is held may be cut before its last byte, the LF after the lines
+-- the held text may be cut before its last byte, the LF after the lines
 pub held_is_cut : (held : List ℕ) (end : ℕ) → IsHeld held → end + 1 ≡ length held → IsCharBoundary held end × (take end held ++ 10 ∷ [] ≡ held)
 held_is_cut held end is len =
     let lines = is (λ none. let zero : length held ≡ 0 = ap length none in absurd (omega arith)) in

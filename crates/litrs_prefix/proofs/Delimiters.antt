@@ -17,7 +17,7 @@ use Rattle.litrs_prefix.proofs.Ends.{end_of_end}
 use Rattle.litrs_prefix.proofs.Marks.{span_cut, piece_cut, no_char_span}
 use Rattle.litrs_prefix.proofs.MeantEnds.{opened_piece}
 
--- what is searched ends with the text, and so does what is found
+-- the searched text ends with the text, and so does the found rest
 found_by : (ds : List ℕ) (c : ℕ) (t : List ℕ) (v : Bool) → IsEndOf t (from_first ds t) → IsEndOf (c ∷ t) (if v then c ∷ t else from_first ds t)
 found_by ds c t true end = ([], refl)
 found_by ds c t false end = (c ∷ end.0, ap (λ (l : List ℕ). c ∷ l) end.1)
@@ -91,7 +91,7 @@ bytes_end bs rest front u v is = (
       ∙ (sym (encodes-append front (chars rest)) ∙ (ap encode_utf8_all is ∙ encodes-chars bs u)),
 )
 
--- what the error of a front of what follows `start` bytes marks
+-- the part that the error of a front of the text after `start` bytes marks
 pub refused_marks : (bs front more : List ℕ) (start : ℕ) (e : MalformedPrefix) → IsUtf8 bs → IsCharBoundary bs start →
     front ++ more ≡ chars (drop start bs) → IsRefusedUntil start front e → IsMarkedAt start bs e
 refused_marks bs front more start e u bound spells at =

@@ -32,7 +32,7 @@ not_longer t x h =
     let size : length t ≡ length h.0 + length x = ap length (sym h.1) ∙ length-append h.0 x in
     omega arith
 
--- where the end of a text begins
+-- the place at which the end of a text begins
 pub end_at : (bs front after : List ℕ) → IsUtf8 after → front ++ after ≡ bs → IsCharBoundary bs (length bs - length after) × (drop (length bs - length after) bs ≡ after)
 end_at bs front after u is =
     let size : length bs ≡ length front + length after = ap length (sym is) ∙ length-append front after in

@@ -1,10 +1,10 @@
 -- ends of texts
 pub mod Ends
--- names, and that a literal at the front opens
+-- names, and openings of literals at the front
 pub mod Names
 pub mod Runs
 pub mod Opened
--- what longer texts keep, and that the literal is the only one
+-- facts that longer texts keep; the literal is the only one
 pub mod LongerTexts
 pub mod Suffixes
 pub mod Quoted
@@ -14,19 +14,19 @@ pub mod Unique
 pub mod MoreText
 pub mod OpenedStays
 pub mod MayChange
--- that a literal at the front is found
+-- a literal at the front is found
 pub mod OnlyRest
 pub mod NumberEnds
--- what was meant as a literal
+-- malformed prefixes
 pub mod Pieces
 pub mod Meant
 pub mod MeantEnds
 pub mod MeantPieces
--- what an error marks
+-- the part that an error marks
 pub mod Marks
 -- the text before a delimiter
 pub mod Delimiters
--- whether a piece is a literal
+-- pieces that are literals
 pub mod Judged
 -- literals and strings that are read once
 pub mod Extents

@@ -89,7 +89,7 @@ line_feed_test bs u =
     let b = char_test (98 ∷ 39 ∷ 10 ∷ []) bs refl u in
     λ i. a i || b i
 
--- what a `'` after the line feed makes longer
+-- texts that a `'` after the line feed makes longer
 pub malformed_line_feed : (t : List ℕ) → opens t ≡ true → HasNoPrefix t → is_quoted_line_feed t ≡ true → AnswerChanges t
 malformed_line_feed t h absent is = go (is_text (codes "'\n") t) refl is
   where

@@ -126,7 +126,7 @@ number_end c t h =
     subst (λ (l : List ℕ). IsEndOf t l) (sym (number_parts (c ∷ t)))
     (end_of_end t fraction (after_exponent fraction) (end_of_end t digits fraction (first_digit c t h) (fraction_end digits)) (exponent_end fraction))
 
--- what opens
+-- openings of literals
 
 choose : (P : List ℕ → Type 0) (v : Bool) (x y : List ℕ) → (v ≡ true → P x) → (v ≡ false → P y) → P (if v then x else y)
 choose P true x y h g = h refl
@@ -167,7 +167,7 @@ pub opened_piece : (t : List ℕ) → opens t ≡ true → IsOpened t
 opened_piece [] h = absurd (false≢true h)
 opened_piece (c ∷ t) h = let end = opened_end c t h in record { first = c; piece = end.0; spells = ap (λ (l : List ℕ). c ∷ l) end.1 }
 
--- where the end of a text begins, by its characters
+-- the place at which the end of a text begins, by its characters
 pub record EndsAt (bs rest front : List ℕ) : Type 0 where
   pub boundary : IsCharBoundary bs (length bs - length rest)
   pub before : chars (take (length bs - length rest) bs) ≡ front

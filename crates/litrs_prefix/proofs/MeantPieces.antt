@@ -19,7 +19,7 @@ no_end : (x : List ℕ) (c : ℕ) (y : List ℕ) → x ++ c ∷ y ≡ [] → ⊥
 no_end [] c y h = no_cons c y h
 no_end (a ∷ x) c y h = no_cons a (x ++ c ∷ y) h
 
--- what holds of each shorter one and of this
+-- facts about each shorter one and about this
 one_more : (P : List ℕ → Type 0) (more : List ℕ) (c : ℕ) → P more → Holds P more → Holds P (more ++ c ∷ [])
 one_more P [] c here before [] d y is = here
 one_more P [] c here before (a ∷ x) d y is = (let tail : x ++ d ∷ y ≡ [] = cc in absurd (no_end x d y tail))
@@ -63,7 +63,7 @@ fronts (c ∷ a) (d ∷ b) x y h =
       | inr (inr (e, z, is)) ↦ inr (inr (e, z, λ i. sym head i ∷ is i))
     ]
 
--- what was meant is one piece alone
+-- the malformed prefix is one piece alone
 pub meant_unique : (t f g r u : List ℕ) → IsMeant t f → IsMeant t g → f ++ r ≡ t → g ++ u ≡ t → HasNoDerivation (IsLiteral f) → HasNoDerivation (IsLiteral g) → f ≡ g
 meant_unique t f g r u m n before after none other =
     let same : m.piece ≡ n.piece = append_cancel_right m.piece n.piece (after_opened t) (m.opened ∙ sym n.opened) in

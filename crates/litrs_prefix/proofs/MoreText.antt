@@ -1,4 +1,4 @@
--- Which texts more text may give another literal at the front.
+-- Texts that more text may give another literal at the front.
 use Rattle.std.proofs.Common.{◌≡◌, ◌⊎◌, inl, inr, ℕ, Bool, true, false, not, ◌&&◌, List, [], ◌∷◌, ◌++◌, refl, sym, ap, subst, ◌∙◌, append_assoc, arith}
 use Rattle.std.specs.Char.{is_ascii_digit}
 use Rattle.std.specs.List.{list_all}
@@ -44,7 +44,7 @@ not_after : (a b b' : Bool) → (a && b') ≡ true → (a && b) ≡ false → (b
 not_after true b b' h g = (h, g)
 not_after false b b' h g = cc
 
--- what may follow by more text alone is a period, after an integer without suffix
+-- a rest that may follow only with more text is a period, after an integer without suffix
 by_more : (d : Derivation) (x : ℕ) (m more : List ℕ) → may_follow d (x ∷ (m ++ more)) ≡ true → may_follow d (x ∷ m) ≡ false →
     (e : IntegerParts) × (d ≡ an_integer e) × (x ≡ 46) × (m ≡ []) × (is_empty e.suffix ≡ true)
 by_more (a_bool b) x m more h g = absurd (true≢false (sym h ∙ g))

@@ -27,7 +27,7 @@ pub name_and_rest : (t : List ℕ) → first_name t ++ after_name t ≡ t
 name_and_rest [] = refl
 name_and_rest (c ∷ t) = split_if (starts_identifier c) c (first_run t) (after_run t) t (run_and_rest t)
 
--- what follows the name that a suffix is
+-- the text after the name that a suffix is
 
 pub run_after : (s r : List ℕ) → list_all is_xid_continue s ≡ true → first_passes is_xid_continue r ≡ false → after_run (s ++ r) ≡ r
 run_after [] [] h e = refl

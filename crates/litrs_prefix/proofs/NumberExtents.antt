@@ -159,7 +159,7 @@ word_opened bs rest n u count back narrow digit letter =
     name_ends bs rest n u count back narrow
     ∙ (run_after_digits t ∙ sym (ap after_name (number_body t digit ∙ number_parts t) ∙ name_there (after_digits t) letter))
 
--- what follows the digits of the front is what follows those of the text
+-- the text after the digits of the front is that after the digits of the text
 front_mark : (p q : ℕ → Bool) (l r : List ℕ) → first_passes q (drop (prefix_len p (l ++ r)) (l ++ r)) ≡ false → first_passes q (drop (prefix_len p l) l) ≡ false
 front_mark p q [] r h = refl
 front_mark p q (c ∷ l) r h = go (p c) refl (front_mark p q l r) h

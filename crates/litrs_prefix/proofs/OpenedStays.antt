@@ -28,7 +28,7 @@ Grown B x y more = (y ≡ x ++ more) ⊎ ((x ≡ []) × B y)
 abbrev Named : (List ℕ → Type 0) → (x y more : List ℕ) → Type 0
 Named B x y more = ((is_empty x ≡ false) × (y ≡ x ++ more)) ⊎ ((x ≡ []) × B y)
 
--- what holds of the parts that begin with more text
+-- facts about the parts that begin with more text
 record Base (B : List ℕ → Type 0) (m : List ℕ) : Type 0 where
   digits : Grown B [] (after_digits m) m
   fraction : Grown B [] (after_fraction m) m
@@ -239,7 +239,7 @@ raw_grows B m base t h =
     (ap (λ (l : List ℕ). after_closing (hash_len t) l) (sym left) ∙ ap (λ (k : ℕ). after_closing k (drop 1 (after_hashes (t ++ m)))) (sym kept.1))
     (closing_grows B m base (hash_len t) body)
 
--- what opens
+-- openings of literals
 
 choose : (B : List ℕ → Type 0) (m : List ℕ) (v w : Bool) (x y a b : List ℕ) → w ≡ v → (v ≡ true → Grown B x a m) → (v ≡ false → Grown B y b m) →
     Grown B (if v then x else y) (if w then a else b) m
@@ -439,7 +439,7 @@ name_taken t h = elim (name_after None x letter t) [
   | inr is ↦ is.1
 ]
 
--- that a literal begins
+-- a literal begins
 
 run_kept : (t m : List ℕ) → is_empty (after_run t) ≡ false → first_run (t ++ m) ≡ first_run t
 run_kept [] m h = absurd (true≢false h)
@@ -464,7 +464,7 @@ rest_kept t m h = elim (name_after Any m (any m) t) [
   | inr is ↦ absurd (true≢false (sym (ap is_empty is.0) ∙ h))
 ]
 
--- whether a `'` begins a lifetime is seen where its name ends
+-- the end of the name after a `'` decides if it begins a lifetime
 pub lifetime_stays : (t m : List ℕ) → is_empty (after_name t) ≡ false → begins_lifetime (t ++ m) ≡ begins_lifetime t
 lifetime_stays [] m h = absurd (true≢false h)
 lifetime_stays (c ∷ t) m h =

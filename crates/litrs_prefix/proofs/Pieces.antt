@@ -98,7 +98,7 @@ front_found bs front rest n x u before after (inl is) h =
     let same : is.literal ≡ x = (unique (chars front) is.literal x [] [] (whole (chars front) is.literal literal) (whole (chars front) x h)).0 in
     subst (λ (d : Derivation). HasPrefix (chars bs) d (chars rest)) same (subst (λ (l : List ℕ). HasPrefix (chars bs) is.literal (chars l)) (sym after) is.at_front)
 
--- what the spans of an error are moved by fits, if it is within the source text
+-- the offset by which the spans of an error are moved fits, if it is within the source text
 pub malformed_moves : (bs : List ℕ) (e : MalformedPrefix) (offset : ℕ) → IsUtf8 bs → offset + length bs < 2 ^ 64 → IsMalformedOrOutOfMemory (chars bs) e → MovesWithin offset e.error
 malformed_moves bs e offset u small (inl is) =
     let cut = cut_at bs is.front is.rest u (sym is.spells) in
@@ -153,7 +153,7 @@ before_period bs front last n u bound before after is =
     ap (λ (l : List ℕ). chars front ++ l) (sym (ap chars is ∙ (chars_ascii 46 [] (omega arith) ∙ ap (λ (l : List ℕ). 46 ∷ l) chars-nil)))
     ∙ parts_spell bs front last n u bound before after
 
--- what was meant as a literal ends at a character
+-- a malformed prefix ends at a character
 pub malformed_boundary : (bs : List ℕ) (e : MalformedPrefix) → IsUtf8 bs → IsMalformed (chars bs) e → IsCharBoundary bs e.len
 malformed_boundary bs e u is = subst (λ (n : ℕ). IsCharBoundary bs n) is.len (cut_at bs is.front is.rest u (sym is.spells)).boundary
 

@@ -33,7 +33,7 @@ run_from (c ∷ t) = go (is_word c) refl (run_from t)
         ∙ (rec ∙ ap after_run (sym (skip_more c (prefix_len is_word t) t)))
     go false e rec = refl
 
--- where the text is cut after the ASCII characters
+-- the place at which the text is cut after the ASCII characters
 pub name_cut : (bs : List ℕ) (n : ℕ) → IsUtf8 bs → n ≡ prefix_len is_word bs → IsCharBoundary bs n × (after_run (chars (drop n bs)) ≡ after_run (chars bs))
 name_cut bs n u is =
     let m : ℕ = prefix_len is_word bs in

@@ -20,7 +20,7 @@ use Rattle.litrs_prefix.specs.Laws.{PrefixesAreUnique}
 use Rattle.litrs_prefix.proofs.Numbers.{same_integer, has_mark, integer_mark, float_mark}
 use Rattle.litrs_prefix.proofs.OnlyRest.{only_rest}
 
--- how a literal begins
+-- the beginning of a literal
 
 abbrev is_bool_start : ℕ → Bool
 is_bool_start c = (c == 116) || (c == 102)

@@ -1,4 +1,4 @@
--- Which texts more text may give a literal at the front, or another one.
+-- Texts that more text may give a literal at the front, or another one.
 use Rattle.std.specs.Prelude.{◌≡◌, ℕ, List, [], ◌∷◌, ◌++◌, IsTrue}
 use Rattle.litrs_base.specs.Characters.{period}
 use Rattle.litrs_base.specs.Text.{IsText, is_empty}

@@ -11,7 +11,7 @@ pub mod CompileError
 -- mismatches and bools
 pub mod Mismatch
 pub mod BoolTree
--- what conversions expect
+-- the kinds that conversions expect
 pub mod Conversion
 -- The words of the contracts, so that users name this crate alone: of literals
 pub use Rattle.litrs_base.specs.Characters

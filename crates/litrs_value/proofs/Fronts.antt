@@ -90,7 +90,7 @@ cut_after_sign text n len utf8 cut is =
       rest_utf8 = subst (λ (l : List ℕ). IsUtf8 l) (sym front.0) (IsUtf8-take u n whole cut);
     }
 
--- what is marked of the front may be cut in the text
+-- the marked part of the front may be cut in the text
 marked_in : (type : ValueType) (text : List ℕ) (n : ℕ) (e : PrefixError) → IsCutAfter text n e.len → IsValueError type (take e.len text) e.error → IsMarkedIn text e
 marked_in type text n e cut is = (cut.boundary, cut_in text e.len _ cut.boundary (marks type (take e.len text) e.error cut.front_utf8 cut.rest_utf8 is))
 

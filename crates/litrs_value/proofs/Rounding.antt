@@ -175,7 +175,7 @@ rounded_at f x n len d u q e is least most places some power exponent down tie b
     (subst (λ (z : ℕ). x.number % z ≡ z / 2 → x.more ≡ true → q ≡ x.number / z + 1) power beyond)
     (subst (λ (z : ℕ). z / 2 < x.number % z → q ≡ x.number / z + 1) power up)
 
--- how many digits are dropped of a number of this length
+-- the number of digits that are dropped of a number of this length
 pub dropped_is : (f : Format) (len digits : ℕ) → digits ≡ prec f → 61 ≤ len → (len - digits + prec f ≡ len) × (0 < len - digits) × (digits ≤ len)
 dropped_is f len digits is long = let s = shape f in (omega (arith, is, s.digits.1, long), omega (arith, is, s.digits.1, long), omega (arith, is, s.digits.1, long))
 

@@ -1,4 +1,4 @@
--- Which literals a type has values for: by their kind, their sign and their suffix.
+-- The literals that a type has values for, by their kind, their sign and their suffix.
 use Rattle.std.specs.Prelude.{◌≡◌, ◌⊎◌, ℕ, Bool, true, false, List, [], IsTrue, if◌then◌else◌}
 use Rattle.litrs.specs.FloatTypes.{float_type_name}
 use Rattle.litrs.specs.IntegerTypes.{type_name}

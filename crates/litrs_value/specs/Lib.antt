@@ -1,6 +1,6 @@
 -- the value of a float
 pub mod FloatValue
--- which literals a type has values for
+-- the literals that a type has values for
 pub mod Kinds
 -- the values of literals
 pub mod Values
@@ -12,5 +12,5 @@ pub mod Refuses
 pub mod Reads
 -- texts that start with a value
 pub mod Prefixes
--- what is printed of an error
+-- the text of an error
 pub mod ErrorText

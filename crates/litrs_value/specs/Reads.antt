@@ -22,7 +22,7 @@ is_negative text = slice_index text 0 == minus
 abbrev pub sign_len : List ℕ → ℕ
 sign_len text = if is_negative text then 1 else 0
 
--- how a sign is written
+-- the text of a sign
 abbrev pub sign_text : (negative : Bool) → List ℕ
 sign_text true = codes "-"
 sign_text false = []
@@ -54,7 +54,7 @@ IsValueError type text Memory = (d : Derivation) × IsReadAs text d
     × (IsTrue (allocates d) ⊎ IsAllocated type d)
 IsValueError type text e = (d : Derivation) × IsReadAs text d × Refuses type (is_negative text) d e
 
--- which part of the text an error marks
+-- the part of the text that an error marks
 abbrev pub marked : List ℕ → ValueError → Range ℕ
 marked t (Malformed e) = marked_span t e
 marked t (Suffix type len) = record { start = byte_len t - len; end = byte_len t }

@@ -64,7 +64,7 @@ settings_end text (setting ∷ settings) last leaves =
     let front = end_of_end text leaves.0.rest.now leaves.1 (after_word leaves.0 text leaves.2) (begins_end leaves.0 setting leaves.1 leaves.3) in
     end_of_end text leaves.1 last.at.now front (settings_end leaves.1 settings last leaves.4)
 
--- what is wrong with a line is at an end of it
+-- the fault of a line is at an end of it
 pub line_end : (line : List ℕ) (settings : List Setting) (name : Word) (fault : Fault) → LeavesAfter line settings name → IsFaultOf name fault → IsEndOf line fault.at.now
 line_end line settings name fault leaves is = end_of_end line name.at.now fault.at.now (settings_end line settings name leaves) (fault_end name fault is)
 
@@ -75,7 +75,7 @@ settings_snoc text [] name setting rest next is begins more = (name, rest, is, b
 settings_snoc text (first ∷ settings) name setting rest next leaves begins more =
     (leaves.0, leaves.1, leaves.2, leaves.3, settings_snoc leaves.1 settings name setting rest next leaves.4 begins more)
 
--- what is left becomes shorter
+-- the rest becomes shorter
 pub shorter : (name : Word) (setting : Setting) (rest : List ℕ) (next : Word) → 0 < length name.text.now → BeginsWith name setting rest → IsWord next rest → length next.at.now < length name.at.now
 shorter name setting rest next some begins is =
     let size : length name.at.now ≡ length name.text.now + length name.rest.now = ap length (sym name.spells) ∙ length-append name.text.now name.rest.now in

@@ -1,2 +1,2 @@
--- what is answered to a line
+-- the answer to a line
 pub mod Answered

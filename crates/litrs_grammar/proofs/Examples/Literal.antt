@@ -299,7 +299,7 @@ beginnings = (
   (codes ".", a_float (record { integer = codes "3"; fraction = Some []; exponent = codes ""; suffix = codes "" }), refl, (refl, float refl refl refl refl refl (λ e. refl))),
 )
 
--- what follows a beginning is a text
+-- the rest after a beginning is a text
 after_beginning : (parse : Parse) (t : List ℕ) (begins : Begins parse t) → IsText begins.0
 after_beginning parse t begins = begins.2
 

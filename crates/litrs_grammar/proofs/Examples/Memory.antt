@@ -1,4 +1,4 @@
--- Which texts an allocation failure may be the answer to.
+-- Texts for which the answer may be an allocation failure.
 use Rattle.std.specs.Prelude.{◌≡◌, [], ◌∷◌, false, codes, refl}
 use Rattle.std.proofs.Common.{sym, ◌∙◌}
 use Rattle.std.proofs.lemmas.Bool.{false≢true}
@@ -25,7 +25,7 @@ with_escape e is = record {
   error = is;
 }
 
--- that of one without a backslash is not
+-- the value of one without a backslash is not
 without_backslash : (e : ParseError) → ¬ IsOutOfMemory literal_parse (codes "\"ab\"") e
 unfolding computing
 without_backslash e failed =

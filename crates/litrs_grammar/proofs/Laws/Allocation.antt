@@ -41,7 +41,7 @@ in_body items suffix h =
     none_more true = refl
     none_more false = refl
 
--- what begins with a digit begins with none of the fronts
+-- a text that begins with a digit does not begin with any of the fronts
 of_number : (t : List ℕ) → first_passes is_ascii_digit t ≡ true → may_allocate t ≡ false
 of_number [] h = refl
 of_number (c ∷ t) h =

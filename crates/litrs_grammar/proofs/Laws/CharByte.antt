@@ -98,7 +98,7 @@ some_none false o y h = (refl, h)
 some_none true None y h = (refl, h)
 some_none true (Some e) y h = cc
 
--- what follows the item that begins with this character
+-- the text after the item that begins with this character
 abbrev after_char_item : CharKind → List ℕ → CharItem → Option Refusal
 after_char_item kind t item = after_item kind t (length (char_item_text item))
 

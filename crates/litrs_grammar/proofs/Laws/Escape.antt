@@ -17,7 +17,7 @@ use Rattle.litrs_base.proofs.ListTests.{none_if, none_unless, unless_none, take_
 use Rattle.litrs_base.proofs.Spans.{none_from}
 use Rattle.litrs_grammar.specs.Laws.Escape.{BeginsWithEscape, EscapesAreDecided, EscapesAreUnique}
 
--- what holds of the seven simple escapes holds of each
+-- a fact about the seven simple escapes is one about each
 pub by_simple : (P : ℕ → Type 0) (c : ℕ) → is_simple c ≡ true → P 39 → P 34 → P 110 → P 114 → P 116 → P 92 → P 48 → P c
 by_simple P c h a b d e f g z =
     elim (or_cases _ (c == 48) h) [
@@ -77,7 +77,7 @@ pub refusal_hex : (w : Switches) (c d : ℕ) (x : List ℕ) → is_ascii_hexdigi
 unfolding escape_refusal
 refusal_hex w c d x h g b v = rw (two_bytes c d x h g, h, g, b, v) refl
 
--- what begins with a hex digit does not begin with an underscore
+-- a text that begins with a hex digit does not begin with an underscore
 pub starts_inner : (inner : List ℕ) → first_passes is_ascii_hexdigit inner ≡ true → (is_empty inner || first_passes (λ c. c == 95) inner) ≡ false
 starts_inner [] f = cc
 starts_inner (c ∷ t) f = hexdigit_no_underscore c f
@@ -112,7 +112,7 @@ refusal_braced w inner x u a none =
     (none_unless _ _ _ (list_any-split (λ c. c == 125) inner 125 x refl)
     (subst (λ l. inner_refusal w l ≡ None) (sym (before_first-split (λ c. c == 125) inner 125 x open_inner refl)) none))
 
--- what an escape has between its braces, test by test
+-- the text between the braces of an escape, test by test
 pub record IsInner (w : Switches) (inner : List ℕ) : Type 0 where
   pub unicode : w.unicode ≡ true
   pub first : first_passes is_ascii_hexdigit inner ≡ true

@@ -82,7 +82,7 @@ pub empty-true : (p : List ℕ) → is_empty p ≡ true → p ≡ []
 empty-true [] h = refl
 empty-true (c ∷ cs) h = absurd (false≢true h)
 
--- what the three forms say of the fraction and the exponent
+-- the fraction and the exponent in the three forms
 record Form (f : Option (List ℕ)) (p : List ℕ) : Type 0 where
   fraction : fraction_passes f ≡ true
   exponent : (is_empty p ≡ true) ⊎ (is_exponent p ≡ true)

@@ -52,7 +52,7 @@ pub take_while_front : (p : ℕ → Bool) (front rest : List ℕ) → list_all p
 take_while_front p front rest all stops =
     take_at front rest (prefix_len p (front ++ rest)) (sym (prefix_len_front p front rest all stops))
 
--- what passes from the front on, and what is left
+-- the part that passes from the front on, and the rest
 pub list_all-take_while : (p : ℕ → Bool) (xs : List ℕ) → list_all p (take_while p xs) ≡ true
 list_all-take_while p [] = refl
 list_all-take_while p (c ∷ xs) = all_taken p c xs (p c) refl (list_all-take_while p xs)

@@ -261,7 +261,7 @@ by_option : {A : Type 0} (o : Option Refusal) → (o ≡ None → A) → A ⊎ (
 by_option None read = inl (read refl)
 by_option (Some e) read = inr (e, refl)
 
--- what a start says of the text
+-- the text by its start
 abbrev pub StartSays : StringStart → (quoted raw : Bool) → Type 0
 StartSays start quoted raw = (start ≡ quoted_start → quoted ≡ true) × (start ≡ raw_start → raw ≡ true)
 

@@ -12,7 +12,7 @@ use Rattle.litrs_grammar.specs.LongerTexts.{BeginsBy, EndsBy}
 use Rattle.litrs_grammar.specs.GoesOn.Bool.{bool_goes_on}
 use Rattle.litrs_grammar.proofs.LineFeeds.{is_other, no_line_feed}
 
--- what is left of a text after a part that it begins with is a text
+-- the rest of a text after a part at its front is a text
 pub rest_is_text : (t u : List ℕ) → list_all is_scalar u ≡ true → begins_with t u ≡ true → IsText (drop (length t) u)
 rest_is_text t u text begins =
     (and_parts _ _ (sym (all-append is_scalar t (drop (length t) u)) ∙ ap (list_all is_scalar) (begins_with-split t u begins) ∙ text)).1

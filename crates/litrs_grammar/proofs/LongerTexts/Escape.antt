@@ -220,7 +220,7 @@ first-append : (p : ℕ → Bool) (s t : List ℕ) → first_passes p s ≡ true
 first-append p [] t h = cc
 first-append p (c ∷ s) t h = h
 
--- what begins the inside of an escape, is completed
+-- a beginning of the inside of an escape is completed
 complete_one : (w : Switches) (t : List ℕ) → w.unicode ≡ true → first_passes is_ascii_hexdigit t ≡ true → list_all is_hex_or_underscore t ≡ true →
     leb (digits t) 5 ≡ true → is_scalar (hex_value t * 16 + 1) ≡ true → BeginsEscape w (92 ∷ 117 ∷ 123 ∷ t)
 complete_one w t u first all few scalar =

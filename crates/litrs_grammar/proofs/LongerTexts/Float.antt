@@ -85,7 +85,7 @@ nothing_after d e more cut none float same = by d.suffix refl
 period_stops : (c : ℕ) → is_period c ≡ true → is_decimal_char c ≡ false
 period_stops c h = grind (arith, nat_tests)
 
--- what follows the digits and `_` in front
+-- the text after the digits and `_` in front
 abbrev after_digits : List ℕ → List ℕ
 after_digits t = drop (prefix_len is_decimal_char t) t
 

@@ -30,7 +30,7 @@ use Rattle.litrs_grammar.specs.GoesOn.Quoted.{IsOpenRest, RestGoesOn, IsClosedQu
 use Rattle.litrs_grammar.specs.GoesOn.Escape.{BeginsEscape}
 use Rattle.litrs_grammar.proofs.LongerTexts.Suffix.{is_suffix-nil, underscore_x, front_of, suffix_final, suffix_freed}
 
--- what is taken before a text is taken before a longer one
+-- an item that is taken before a text is taken before a longer one
 taken_more : (a : Item) (b : List ℕ) (c : ℕ) (r x : List ℕ) → is_complete_before (b ++ c ∷ r) a ≡ true → is_complete_before (b ++ c ∷ (r ++ x)) a ≡ true
 taken_more (plain_item d) b c r x h = refl
 taken_more (escape_item e) [] c r x h = refl
@@ -45,7 +45,7 @@ stand_more w (a ∷ items) c r x h =
     let q = and_parts (is_item w a) _ p.0 in
     and_from _ _ (and_from _ _ q.0 (taken_more a (body_text items) c r x q.1)) (stand_more w items c r x p.1)
 
--- what is taken at the end of a text is taken before every rest
+-- an item that is taken at the end of a text is taken before every rest
 taken_anywhere : (a : Item) (b x : List ℕ) → is_complete_before (b ++ []) a ≡ true → is_complete_before (b ++ x) a ≡ true
 taken_anywhere (plain_item d) b x h = refl
 taken_anywhere (escape_item e) [] x h = cc
@@ -115,7 +115,7 @@ at_end : {A : Type 0} (w : Switches) (e : Refusal) → is_final e.kind ≡ true 
 unfolding item_refusal
 at_end w e f h = never (without_span UnterminatedString) e refl f h
 
--- what refuses the rest with more after it refuses the text with more after it
+-- a refusal of the rest with more after it refuses the text with more after it
 pub refused_more : (front : List ℕ) (w : Switches) (t x : List ℕ) (items : List Item) (c : ℕ) (r : List ℕ) (cause : Refusal) →
     front ++ (body_text items ++ c ∷ r) ≡ t → is_item_list w (c ∷ r) items ≡ true → item_refusal w (c ∷ (r ++ x)) ≡ Some cause →
     IsQuotedRefusal front w (t ++ x) (shifted (byte_len (front ++ body_text items)) cause)
@@ -141,7 +141,7 @@ quoted_final front w t x e f h = go h.rest h.spells h.taken h.decided
     go (c ∷ r) spells taken told =
         subst (λ r. IsQuotedRefusal front w (t ++ x) r) h.placed (refused_more front w t x h.items c r h.cause spells taken (rest_final w c r x h.cause final_cause told))
 
--- what a table gives is not open
+-- the kind that a table gives is not open
 abbrev is_closed : Option Refusal → Bool
 is_closed None = true
 is_closed (Some e) = not (is_open e.kind)

@@ -231,7 +231,7 @@ pub raw_finality : (unicode allow_nul : Bool) (start : ℕ) (t : List ℕ) (r : 
     EndsBy (IsRawOf unicode allow_nul) t
 raw_finality unicode allow_nul start t r h final more d = refused unicode allow_nul start (t ++ more) r (raw_final unicode allow_nul start t more r final h) d
 
--- Which begin a raw literal.
+-- Texts that begin a raw literal.
 
 -- incomplete texts, by the cut at the hashes
 abbrev pub CutGoesOn : (unicode allow_nul : Bool) (n : ℕ) → List ℕ → Type 0
@@ -387,7 +387,7 @@ rows_open start n true quote o r is h = not_open (spanning start (start + n) Too
 rows_open start n false false o r is h = not_open (without_span InvalidLiteral) r refl is h
 rows_open start n false true o r is h = (refl, refl, h)
 
--- what follows the hashes and the quote of an open text is a raw body
+-- the text after the hashes and the quote of an open text is a raw body
 record IsOpenRaw (unicode allow_nul : Bool) (t : List ℕ) : Type 0 where
   hash_count : ℕ
   body : List ℕ
@@ -414,7 +414,7 @@ open_cut unicode allow_nul start t r is h = by cut.rest cut.spells cut.stops
           grammar = open_body unicode allow_nul cut.count (start + (cut.count + 1)) rest r is rows.2;
         }
 
--- what is refused as open is made a literal by the closing text
+-- the closing text makes a text that is refused as open a literal
 pub raw_open : (unicode allow_nul : Bool) (start : ℕ) (t : List ℕ) (r : Refusal) → is_open r.kind ≡ true → raw_refusal unicode allow_nul start t ≡ Some r →
     IsRawOf unicode allow_nul (t ++ raw_closing (hash_len t)) (raw_open_parts t)
 raw_open unicode allow_nul start t r is h =

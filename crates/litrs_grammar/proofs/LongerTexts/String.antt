@@ -26,7 +26,7 @@ use Rattle.litrs_grammar.proofs.LineFeeds.{is_other, no_line_feed}
 
 -- Quoted and raw starts
 
--- what follows the front that a text begins with
+-- the text after the front that a text begins with
 pub after_quoted : (kind : StringKind) (t : List ℕ) → string_start kind t ≡ quoted_start → quoted_front kind ++ drop (length (quoted_front kind)) t ≡ t
 after_quoted kind t is = begins_with-split (quoted_front kind) t ((string_start_says kind t).0 is)
 
@@ -152,7 +152,7 @@ start_line_end kind t e is x d lit = elim (starts_front kind (t ++ 10 ∷ []) x 
   | inr (c, z, s) ↦ no_line_feed t (c ∷ z) (ap (list_all is_other) (sym s) ∙ raw_other kind)
 ]
 
--- what the rows give
+-- the results of the rows
 start_row : (P : Refusal → Type 0) (kind : StringKind) (t : List ℕ) (e : Refusal) → P (without_span Empty) → P (string_start_refusal kind) → (empty quoted raw : Bool) →
     (if empty then refused_start (without_span Empty) else if quoted then quoted_start else if raw then raw_start else refused_start (string_start_refusal kind)) ≡ refused_start e → P e
 start_row P kind t e empty other true quoted raw is = subst P (let same : without_span Empty ≡ e = cc in same) empty

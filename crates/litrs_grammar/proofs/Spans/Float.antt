@@ -82,7 +82,7 @@ fraction_span t i (c ∷ d ∷ cs) kind spells all wrong =
     let front : list_all is_number_char (i ++ (c ∷ [])) ≡ true = list_all-append is_number_char i (c ∷ []) (decimals_number i all) (and_from _ _ period refl) in
     at_within t (i ++ (c ∷ [])) d cs (length i + 1) kind (append_assoc i (c ∷ []) (d ∷ cs) ∙ spells) (number_bytes (i ++ (c ∷ [])) front ∙ length-append i (c ∷ []))
 
--- what holds of the refusal in each row holds of the table
+-- a fact about the refusal in each row is one about the table
 rows_hold : (P : Refusal → Type 0) (i f n len : ℕ) (kind : ParseErrorKind) (empty digit wrong_fraction period exponent exponent_digit suffix : Bool) →
     ((k : ParseErrorKind) → P (without_span k)) → (empty ≡ false → P (at_byte 0 DoesNotStartWithDigit)) → (wrong_fraction ≡ true → P (at_byte (i + 1) UnexpectedChar)) →
     P (spanning f n NoExponentDigits) → P (spanning n len kind) → ForSome (number_rows empty digit (float_rows i f n len kind wrong_fraction period exponent exponent_digit suffix)) P

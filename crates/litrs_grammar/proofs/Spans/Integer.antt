@@ -18,7 +18,7 @@ use Rattle.litrs_base.proofs.Runs.{last_passes, is_line_feed, line_feed_last, la
 use Rattle.litrs_grammar.proofs.SuffixStart.{suffix_last}
 use Rattle.litrs_base.proofs.Spans.{byte_len-append, plain_within, over_within, at_within}
 
--- what a row refuses is what is refused
+-- the refusal of a row is that of the text
 pub row_is : (t : List ℕ) (row e : Refusal) → IsInText t row → Some row ≡ Some e → IsInText t e
 row_is t row e within is = subst (λ (f : Refusal). IsInText t f) (let same : row ≡ e = cc in same) within
 

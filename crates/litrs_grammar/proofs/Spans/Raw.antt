@@ -20,7 +20,7 @@ use Rattle.litrs_grammar.proofs.NoNul.{encode_no_nul}
 use Rattle.litrs_grammar.proofs.RawCuts.{hashes_pass, length-hashes, hash_cut, ClosingCut, closing_cut, length_before_le}
 use Rattle.litrs_grammar.proofs.Laws.Raw.{refusal_of_hashes, before_closing, after_closing, raw_body_rows, raw_rows}
 
--- what holds of the refusal in each row holds of the tables
+-- a fact about the refusal in each row is one about the tables
 
 body_rows_hold : (P : Refusal → Type 0) (place suffix_place : ℕ) (kind suffix_kind : ParseErrorKind) (refused closed suffix : Bool) →
     (refused ≡ true → P (at_byte place kind)) → P (without_span UnterminatedRawString) → (closed ≡ true → suffix ≡ false → P (at_byte suffix_place suffix_kind)) →
@@ -57,7 +57,7 @@ char_span t front r start k kind spells at_start inside =
     (append_assoc front (take k r) (get_or r k 0 ∷ drop (k + 1) r) ∙ (ap (λ s. front ++ s) split ∙ spells))
     (byte_len-append front (take k r) ∙ ap (λ m. m + byte_len (take k r)) at_start)
 
--- what follows a closing, if that is not empty
+-- the text after a closing, if it is not empty
 suffix_span : (t front x : List ℕ) (place : ℕ) (kind : ParseErrorKind) → front ++ x ≡ t → byte_len front ≡ place → is_suffix x ≡ false → IsInText t (at_byte place kind)
 unfolding is_suffix
 suffix_span t front [] place kind spells at_place h = absurd (true≢false h)
@@ -115,7 +115,7 @@ raw_refusal_within unicode allow_nul front t =
     (λ quote. subst (λ (place : ℕ). ForSome (raw_body_refusal unicode allow_nul n place (drop 1 c.rest)) (IsInText (front ++ t))) (omega arith)
     (quoted_within unicode allow_nul (front ++ t) (front ++ hashes n) c.rest n (start + n) regroup bytes quote)))
 
--- what raw literals end with
+-- the last characters of raw literals
 
 hash_line_feed : (c : ℕ) → is_hash c ≡ true → is_line_feed c ≡ false
 hash_line_feed c h = rw (eqb-true c 35 h) refl
