@@ -45,7 +45,7 @@ kind_error kind t e is (inr lack) = inr (record {
   error = lack.error;
 })
 
--- The same by what the code's dispatch answers of the bytes
+-- Likewise by the answer of the code's dispatch on the bytes
 
 row_at : (bytes text : List ℕ) (row : Dispatch) → IsUtf8 text → text ≡ bytes → row ≡ dispatch text → dispatch (chars bytes) ≡ row
 row_at bytes text row u same is = ap (λ (b : List ℕ). dispatch (chars b)) (sym same) ∙ (dispatch-chars text u ∙ sym is)

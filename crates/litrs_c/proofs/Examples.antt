@@ -139,7 +139,7 @@ final_fields : (fields : RefusalFields) →
     × (fields.span ≡ place 2 3) × (fields.char_span ≡ place 2 4)
 final_fields fields is = (is.kind, is.final, is.lacks_closing, is.has_span, is.span, is.char_span)
 
--- that of `"a`
+-- the refusal of `"a`
 open_fields : (fields : RefusalFields) →
     IsRefusalFields (record { span = None; char_end = 0; kind = kind.UnterminatedString }) fields →
     (fields.kind ≡ 30) × (fields.is_final ≡ false) × (fields.is_open ≡ true) × (fields.has_span ≡ false)
@@ -195,7 +195,7 @@ literal_written old new len d is = (is.utf8, is.literal, is.written.len)
 
 -- Numbers that need memory
 
--- that of `1_0.5`
+-- the float `1_0.5`
 copied_float : IsCopied (a_float (record { integer = codes "1_0"; fraction = Some (codes "5"); exponent = []; suffix = [] }))
 unfolding computing
 copied_float = refl

@@ -2,7 +2,7 @@
 pub mod TextLines
 -- the starts of lines follow one another
 pub mod LineStarts
--- the same in its bytes
+-- the first and the last line in bytes
 pub mod ByteLines
 -- texts that are written in turn
 pub mod Encodes

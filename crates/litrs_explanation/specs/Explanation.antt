@@ -157,7 +157,7 @@ abbrev pub escaped_char : ℕ → List ℕ
 escaped_char c =
     if is_printable c then c ∷ [] else codes "\\u{" ++ (digits 16 false c ++ codes "}")
 
--- the same for each character of a text
+-- likewise for each character of a text
 abbrev pub escaped : List ℕ → List ℕ
 escaped t = flat_map escaped_char t
 

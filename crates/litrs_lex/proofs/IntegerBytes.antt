@@ -138,7 +138,7 @@ refusal_of_bytes bs u =
     ∙ (ap (λ v. integer_rows (start_of bs) (start_of bs + run_of bs) (length bs) (is_suffix (chars x)) v (suffix_refusal (chars x)) (first_passes is_e (chars x)) (list_any (is_digit base) main)) digit
     ∙ ap (λ v. integer_rows (start_of bs) (start_of bs + run_of bs) (length bs) (is_suffix (chars x)) (first_passes is_ascii_digit x) (suffix_refusal (chars x)) v (list_any (is_digit base) main)) e))))
 
--- The same by the cut that the code makes.
+-- Likewise by the cut that the code makes.
 
 pub cut_bytes_is : (cut : IntegerCut) (bs : List ℕ) → IsDigitsCut cut bs →
     (cut.start_main ≡ start_of bs) × (cut.end_main ≡ start_of bs + run_of bs)
@@ -214,7 +214,7 @@ suffix_unless_digit x u = go (first_passes is_ascii_digit x) refl
     go true e = digit_no_suffix (chars x) (first_passes-chars is_ascii_digit x digit_is_ascii u ∙ e)
     go false e = refl
 
--- the same with the test that the code makes of the main part
+-- likewise with the code's test of the main part
 pub refusal_of_main : (cut : IntegerCut) (bs : List ℕ) → IsUtf8 bs → IsDigitsCut cut bs → integer_cut_refusal (integer_cut (chars bs)) ≡
     integer_rows cut.start_main cut.end_main (length bs)
     (not (first_passes is_ascii_digit (chars (drop cut.end_main bs))) && is_suffix (chars (drop cut.end_main bs)))

@@ -34,7 +34,7 @@ pub byte_text : (takes : Bool) (b : ℕ) → (takes || is_ascii b) ≡ true → 
 byte_text true b h none = absurd (true≢false none)
 byte_text false b h none = let low = ltb-true b 128 h in subst IsUtf8 (encode_ascii b low) (IsUtf8-encode b (low_scalar b (omega arith)))
 
--- the same bytes, said otherwise
+-- the same bytes, in another form
 pub grown : (takes : Bool) (contents piece v a b : List ℕ) → a ≡ b → IsFilledTo takes contents piece (v ++ a) → IsFilledTo takes contents piece (v ++ b)
 grown takes contents piece v a b is held = (held.0 ∙ ap (λ l. v ++ l) is, held.1)
 

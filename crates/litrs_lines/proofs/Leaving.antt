@@ -57,7 +57,7 @@ module _ {O : Type 0} (contents : O → Option (List ℕ)) (has_failed write_fai
     failure = fails_later r (has_failed old.writer.now) (has_failed mid.writer.now) (has_failed new.writer.now) (write_failed new.writer.now) (ap has_failed writer) left.failure;
   }
 
-  -- the same step, of bytes that are others too
+  -- the same step, also for other bytes
   pub leaves_as : (r : Result (Unit {0}) RunError) (old new : Reporter O) (P Q : Adding) → ((left out : List ℕ) → P left out → Q left out) → Left r old new P → Left r old new Q
   leaves_as r old new P Q are left = leaves_from r old old new P Q (same_reporter old) refl refl are left
 

@@ -70,7 +70,7 @@ end_by_chars : (line rest front : List ℕ) → IsUtf8 line → IsUtf8 rest → 
 end_by_chars line rest front u v is =
     (encodes front, ap (λ (x : List ℕ). encodes front ++ x) (sym (encodes-chars rest v)) ∙ (sym (encodes-append front (chars rest)) ∙ (ap encodes is ∙ encodes-chars line u)))
 
--- the same after lines that are held
+-- likewise after lines that are held
 end_after_lines : (t held line rest : List ℕ) (d : Derivation) → t ++ 10 ∷ [] ≡ held → IsUtf8 t → IsUtf8 held → IsUtf8 line → IsUtf8 rest → BeginsByLine t →
     HasPrefix (chars (held ++ line)) d (chars rest) → IsEndOf line rest
 end_after_lines t held line rest d is ut uh ul ur begins at =

@@ -24,7 +24,7 @@ use Rattle.litrs_prefix.proofs.Meant.{closing_here, closing_later, past_quote_is
 abbrev Grown : (List ℕ → Type 0) → (x y more : List ℕ) → Type 0
 Grown B x y more = (y ≡ x ++ more) ⊎ ((x ≡ []) × B y)
 
--- the same with something left
+-- likewise with something left
 abbrev Named : (List ℕ → Type 0) → (x y more : List ℕ) → Type 0
 Named B x y more = ((is_empty x ≡ false) × (y ≡ x ++ more)) ⊎ ((x ≡ []) × B y)
 

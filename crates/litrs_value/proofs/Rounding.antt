@@ -163,7 +163,7 @@ rounded_value f x n len (suc e) q is least most places some down tie beyond up =
       ]
     ]
 
--- the same with the unit and the exponent as the code has them
+-- likewise with the unit and the exponent as the code has them
 pub rounded_at : (f : Format) (x : Leading) (n len d u q e : ℕ) → IsLeading x n → 2 ^ (len - 1) ≤ x.number → x.number < 2 ^ len → d + prec f ≡ len → 0 < d → u ≡ 2 ^ d → e ≡ low f + d + x.shift
     → (x.number % u < u / 2 → q ≡ x.number / u) → (x.number % u ≡ u / 2 → x.more ≡ false → q ≡ x.number / u + x.number / u % 2) → (x.number % u ≡ u / 2 → x.more ≡ true → q ≡ x.number / u + 1) → (u / 2 < x.number % u → q ≡ x.number / u + 1)
     → of_bits f (scaled_bits f q e) ≡ round f false n 1
