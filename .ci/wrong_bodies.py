@@ -172,19 +172,19 @@ def path_of(file, *names):
 
 
 def owners_of(file, text, offset):
-    """The paths of the functions that a change at this place touches. A path that ends in `::` is
-    that of an impl, and covers all that is in it."""
+    """The paths of the functions that a change at this place touches: for a constant those that use
+    it, in its impl if it is in one. A path that ends in `::` is that of an impl, and covers all that
+    is in it."""
     around, inside = owner_at(text, offset)
-    if inside and inside[0] == "fn":
-        return {path_of(file, around, inside[1])}
-    if around:
-        return {path_of(file, around) + "::"}
-    owners = set()
-    for found in re.finditer(rf"\b{inside[1]}\b", text) if inside else ():
+    kind, name = inside or (None, None)
+    if kind == "fn":
+        return {path_of(file, around, name)}
+    owners, is_used = set(), kind == "const" or kind and not around
+    for found in re.finditer(rf"\b{name}\b", text) if is_used else ():
         around_it, user = owner_at(text, found.start())
-        if user and user[0] == "fn":
+        if user and user[0] == "fn" and around in (None, around_it):
             owners.add(path_of(file, around_it, user[1]))
-    return owners
+    return owners or ({path_of(file, around) + "::"} if around else set())
 
 
 # A source file, and the paths of its functions.
