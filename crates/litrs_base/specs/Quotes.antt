@@ -5,9 +5,12 @@ use Rattle.std.specs.Prelude.{ℕ, true, false, List, [], ◌∷◌, codes}
 use Rattle.litrs_base.specs.Characters.{single_quote, double_quote, letter_b, letter_c}
 pub use Rattle.litrs_base.specs.declared.quotes.Switches.{Switches}
 pub use Rattle.litrs_base.specs.declared.quotes.CharKind.{CharKind}
-pub use Rattle.litrs_base.specs.declared.quotes.CharKind.TheVariants.{Char as char_kind, Byte as byte_kind}
+pub use Rattle.litrs_base.specs.declared.quotes.CharKind.TheVariants.{Char as char_kind}
+pub use Rattle.litrs_base.specs.declared.quotes.CharKind.TheVariants.{Byte as byte_kind}
 pub use Rattle.litrs_base.specs.declared.quotes.StringKind.{StringKind}
-pub use Rattle.litrs_base.specs.declared.quotes.StringKind.TheVariants.{String as string_kind, ByteString as byte_string_kind, CString as c_string_kind}
+pub use Rattle.litrs_base.specs.declared.quotes.StringKind.TheVariants.{String as string_kind}
+pub use Rattle.litrs_base.specs.declared.quotes.StringKind.TheVariants.{ByteString as byte_string_kind}
+pub use Rattle.litrs_base.specs.declared.quotes.StringKind.TheVariants.{CString as c_string_kind}
 
 -- The front of a char or a byte: `'` or `b'`.
 abbrev pub char_front : CharKind → List ℕ

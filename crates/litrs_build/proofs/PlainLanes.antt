@@ -5,7 +5,9 @@ use Rattle.std.proofs.lemmas.Simd.{zip2_splat, zip2_splat_left, zip2_of_maps, ma
 use Rattle.std.proofs.lemmas.List.{length-map}
 use lib.Bits.{bit_or}
 use lib.Lanes.{zip2, mask_l, top, Each1}
-use Rattle.litrs_build.specs.Pieces.{is_plain}
+use Rattle.litrs_build.specs.Pieces.{is_plain, last_byte}
+use Rattle.litrs_build.specs.declared.pieces.Charset.{Charset}
+use Rattle.litrs_build.specs.declared.pieces.Charset.TheVariants.{Ascii, Any}
 
 -- lanes that are 255 if a test holds and 0 otherwise
 abbrev mark : Bool → ℕ
@@ -43,19 +45,19 @@ marked p v short lanes =
 abbrev is_hit : (last : ℕ) → ℕ → Bool
 is_hit last x = ((ltb x 32 || ltb last x) || eqb x 34) || eqb x 92
 
-abbrev pub is_other : (wide : Bool) → ℕ → Bool
-is_other wide x = not (is_plain wide x)
+abbrev pub is_other : (set : Charset) → ℕ → Bool
+is_other set x = not (is_plain set x)
 
-hits : (wide : Bool) → agree_below (is_hit (cond wide 255 126)) (is_other wide) 256 ≡ true
-hits true = refl
-hits false = refl
+hits : (set : Charset) → agree_below (is_hit (last_byte set)) (is_other set) 256 ≡ true
+hits Any = refl
+hits Ascii = refl
 
-hits_other : (wide : Bool) (v : List ℕ) → Each1 (Fits w8) v →
-    map (is_hit (cond wide 255 126)) v ≡ map (is_other wide) v
-hits_other wide [] fits = refl
-hits_other wide (x ∷ xs) fits =
-    λ i. agree_below_at (is_hit (cond wide 255 126)) (is_other wide) 256 x (hits wide) fits.0.fits i
-    ∷ hits_other wide xs fits.1 i
+hits_other : (set : Charset) (v : List ℕ) → Each1 (Fits w8) v →
+    map (is_hit (last_byte set)) v ≡ map (is_other set) v
+hits_other set [] fits = refl
+hits_other set (x ∷ xs) fits =
+    λ i. agree_below_at (is_hit (last_byte set)) (is_other set) 256 x (hits set) fits.0.fits i
+    ∷ hits_other set xs fits.1 i
 
 abbrev equal : ℕ → ℕ → ℕ
 equal a b = mark (eqb a b)
@@ -66,17 +68,17 @@ below a b = mark (ltb a b)
 abbrev joined : List ℕ → List ℕ → List ℕ
 joined = zip2 bit_or
 
-pub marks_other : (wide : Bool) (v : List ℕ) (n last : ℕ) → length v ≡ n → n ≤ 64 →
-    Each1 (Fits w8) v → last ≡ cond wide 255 126 →
+pub marks_other : (set : Charset) (v : List ℕ) (n last : ℕ) → length v ≡ n → n ≤ 64 →
+    Each1 (Fits w8) v → last ≡ last_byte set →
     mask_l (map (top 7) (joined (joined (joined (zip2 below v (replicate n 32))
     (zip2 below (replicate n last) v)) (zip2 equal v (replicate n 34)))
     (zip2 equal v (replicate n 92)))) % 2 ^ 64
-    ≡ mask_l (map (is_other wide) v)
-marks_other wide v n last long few fits is =
+    ≡ mask_l (map (is_other set) v)
+marks_other set v n last long few fits is =
     marked (is_hit last) v (omega arith)
     (either _ (λ x. eqb x 92) v (either _ (λ x. eqb x 34) v
     (either (λ x. ltb x 32) (λ x. ltb last x) v
     (zip2_splat below v n 32 long) (zip2_splat_left below last n v long))
     (zip2_splat equal v n 34 long)) (zip2_splat equal v n 92 long))
     ∙ ap (λ (k : ℕ). mask_l (map (is_hit k) v)) is
-    ∙ ap mask_l (hits_other wide v fits)
+    ∙ ap mask_l (hits_other set v fits)

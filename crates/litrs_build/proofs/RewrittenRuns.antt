@@ -13,8 +13,10 @@ use Rattle.litrs_base.specs.declared.quotes.Switches.{Switches}
 use Rattle.litrs_grammar.specs.Escape.{simple_escape, hex_escape, unicode_escape}
 use Rattle.litrs_grammar.specs.Quoted.{Item, plain_item, escape_item, continuation, body_text, is_body}
 use Rattle.litrs_lex.proofs.PlainRuns.{AlikeFrom128, char_run}
-use Rattle.litrs_build.specs.Pieces.{is_plain}
-use Rattle.litrs_build.specs.Rewriting.{before_after, item_rewriting, items_of, keeps_chars, line_feed_rewriting, needed_char, plain_rewriting, rewritten_items, run_len}
+use Rattle.litrs_build.specs.Pieces.{is_in, is_plain}
+use Rattle.litrs_build.specs.Rewriting.{before_after, item_rewriting, items_of, plain_charset, line_feed_rewriting, needed_char, plain_rewriting, rewritten_items, run_len}
+use Rattle.litrs_build.specs.declared.pieces.Charset.{Charset}
+use Rattle.litrs_build.specs.declared.pieces.Charset.TheVariants.{Ascii, Any}
 use Rattle.litrs_build.specs.declared.rewriting.Before.{Before}
 use Rattle.litrs_build.specs.declared.rewriting.Before.TheVariants.{Text, Mark, Continuation}
 use Rattle.litrs_build.specs.declared.rewriting.Rewriting.TheVariants.{Spelled}
@@ -34,9 +36,9 @@ record IsSplit (w : Switches) (plain cs suffix : List ℕ) (items : List Item) :
   rest : cs ≡ body_text others ++ 34 ∷ suffix
   body : is_body w others ≡ true
 
-no_mark : (wide : Bool) (c d : ℕ) → is_plain wide c ≡ true → (d ≡ 34) ⊎ (d ≡ 92) → c ≡ d → ⊥
-no_mark true c d plain mark same = grind (arith, nat_tests)
-no_mark false c d plain mark same = grind (arith, nat_tests)
+no_mark : (set : Charset) (c d : ℕ) → is_plain set c ≡ true → (d ≡ 34) ⊎ (d ≡ 92) → c ≡ d → ⊥
+no_mark Any c d plain mark same = grind (arith, nat_tests)
+no_mark Ascii c d plain mark same = grind (arith, nat_tests)
 
 more : (w : Switches) (c : ℕ) (plain cs suffix : List ℕ) (items : List Item) →
     IsSplit w plain cs suffix items → IsSplit w (c ∷ plain) cs suffix (plain_item c ∷ items)
@@ -47,50 +49,50 @@ more w c plain cs suffix items split = record {
   body = split.body;
 }
 
-split_plain : (wide : Bool) (w : Switches) (plain cs suffix : List ℕ) (items : List Item) →
-    list_all (is_plain wide) plain ≡ true → plain ++ cs ≡ body_text items ++ 34 ∷ suffix →
+split_plain : (set : Charset) (w : Switches) (plain cs suffix : List ℕ) (items : List Item) →
+    list_all (is_plain set) plain ≡ true → plain ++ cs ≡ body_text items ++ 34 ∷ suffix →
     is_body w items ≡ true → IsSplit w plain cs suffix items
-split_plain wide w [] cs suffix items all same body = record {
+split_plain set w [] cs suffix items all same body = record {
   others = items;
   items_are = refl;
   rest = same;
   body = body;
 }
-split_plain wide w (c ∷ plain) cs suffix [] all same body =
+split_plain set w (c ∷ plain) cs suffix [] all same body =
     let first : c ≡ 34 = cc in
-    absurd (no_mark wide c 34 (and_parts (is_plain wide c) _ all).0 (inl refl) first)
-split_plain wide w (c ∷ plain) cs suffix (plain_item d ∷ items) all same body =
+    absurd (no_mark set c 34 (and_parts (is_plain set c) _ all).0 (inl refl) first)
+split_plain set w (c ∷ plain) cs suffix (plain_item d ∷ items) all same body =
     let first : c ≡ d = cc in
     let rest : plain ++ cs ≡ body_text items ++ 34 ∷ suffix = cc in
     let both = and_parts _ (is_body w items) body in
     subst (λ (n : ℕ). IsSplit w (c ∷ plain) cs suffix (plain_item n ∷ items)) first
     (more w c plain cs suffix items
-    (split_plain wide w plain cs suffix items (and_parts (is_plain wide c) _ all).1 rest both.1))
-split_plain wide w (c ∷ plain) cs suffix (escape_item (simple_escape d) ∷ items) all same body =
+    (split_plain set w plain cs suffix items (and_parts (is_plain set c) _ all).1 rest both.1))
+split_plain set w (c ∷ plain) cs suffix (escape_item (simple_escape d) ∷ items) all same body =
     let first : c ≡ 92 = cc in
-    absurd (no_mark wide c 92 (and_parts (is_plain wide c) _ all).0 (inr refl) first)
-split_plain wide w (c ∷ plain) cs suffix (escape_item (hex_escape high low) ∷ items) all same body =
+    absurd (no_mark set c 92 (and_parts (is_plain set c) _ all).0 (inr refl) first)
+split_plain set w (c ∷ plain) cs suffix (escape_item (hex_escape high low) ∷ items) all same body =
     let first : c ≡ 92 = cc in
-    absurd (no_mark wide c 92 (and_parts (is_plain wide c) _ all).0 (inr refl) first)
-split_plain wide w (c ∷ plain) cs suffix (escape_item (unicode_escape inner) ∷ items) all same body =
+    absurd (no_mark set c 92 (and_parts (is_plain set c) _ all).0 (inr refl) first)
+split_plain set w (c ∷ plain) cs suffix (escape_item (unicode_escape inner) ∷ items) all same body =
     let first : c ≡ 92 = cc in
-    absurd (no_mark wide c 92 (and_parts (is_plain wide c) _ all).0 (inr refl) first)
-split_plain wide w (c ∷ plain) cs suffix (continuation blanks ∷ items) all same body =
+    absurd (no_mark set c 92 (and_parts (is_plain set c) _ all).0 (inr refl) first)
+split_plain set w (c ∷ plain) cs suffix (continuation blanks ∷ items) all same body =
     let first : c ≡ 92 = cc in
-    absurd (no_mark wide c 92 (and_parts (is_plain wide c) _ all).0 (inr refl) first)
+    absurd (no_mark set c 92 (and_parts (is_plain set c) _ all).0 (inr refl) first)
 
 -- Their rewriting
 
-no_line_feed : (wide : Bool) (c : ℕ) → is_plain wide c ≡ true → (c == 10) ≡ false
-no_line_feed true c plain = grind (arith, nat_tests)
-no_line_feed false c plain = grind (arith, nat_tests)
+no_line_feed : (set : Charset) (c : ℕ) → is_plain set c ≡ true → (c == 10) ≡ false
+no_line_feed Any c plain = grind (arith, nat_tests)
+no_line_feed Ascii c plain = grind (arith, nat_tests)
 
 -- the text before is not a continuation
 abbrev IsApart : Before → Type 0
 IsApart Continuation = ⊥
 IsApart _ = Unit {0}
 
-needed_plain : (before : Before) (c : ℕ) → IsApart before → is_plain false c ≡ true →
+needed_plain : (before : Before) (c : ℕ) → IsApart before → is_plain Ascii c ≡ true →
     needed_char 34 before c ≡ Plain c
 needed_plain Text c apart plain = plain_spelling false c plain
 needed_plain Mark c apart plain = plain_spelling true c plain
@@ -98,10 +100,10 @@ needed_plain Continuation c apart plain = absurd apart
 
 -- a character of a run
 abbrev is_run_char : Style → ℕ → Bool
-is_run_char style c = is_plain (keeps_chars style.escapes) c
+is_run_char style c = is_plain (plain_charset style.escapes) c
 
 plain_items_of : (style : Style) (before : Before) (c : ℕ) → IsApart before →
-    (escapes : Escapes) → is_plain (keeps_chars escapes) c ≡ true →
+    (escapes : Escapes) → is_plain (plain_charset escapes) c ≡ true →
     items_of style.escape_digits (plain_item c) (plain_rewriting escapes 34 before c)
     ≡ plain_item c ∷ []
 plain_items_of style before c apart Kept plain = refl
@@ -118,7 +120,7 @@ one_item style before c apart plain =
     ap (items_of style.escape_digits (plain_item c))
     (if_false (c == 10) (line_feed_rewriting style.lines)
     (plain_rewriting style.escapes 34 before c)
-    (no_line_feed (keeps_chars style.escapes) c plain))
+    (no_line_feed (plain_charset style.escapes) c plain))
     ∙ plain_items_of style before c apart style.escapes plain
 
 one_more : (style : Style) (before : Before) (c : ℕ) (items : List Item) → IsApart before →
@@ -129,7 +131,7 @@ one_more style before c items apart plain =
     ap (λ (l : List Item). l ++ rewritten_items style (before_after before l) items)
     (one_item style before c apart plain)
     ∙ ap (λ (b : Before). plain_item c ∷ rewritten_items style b items)
-    (if_false (c == 10) Mark Text (no_line_feed (keeps_chars style.escapes) c plain))
+    (if_false (c == 10) Mark Text (no_line_feed (plain_charset style.escapes) c plain))
 
 run_items : (style : Style) (before : Before) (plain : List ℕ) (items : List Item) →
     IsApart before → 0 < length plain → list_all (is_run_char style) plain ≡ true →
@@ -160,20 +162,20 @@ record IsRun (p : ℕ → Bool) (rest : List ℕ) (n : ℕ) : Type 0 where
   boundary : IsCharBoundary rest n
   some : 0 < length plain
 
-alike : (wide : Bool) → AlikeFrom128 (is_plain wide) wide
-alike true c high = grind (arith, nat_tests)
-alike false c high = grind (arith, nat_tests)
+alike : (set : Charset) → AlikeFrom128 (is_plain set) (is_in set 128)
+alike Any c high = grind (arith, nat_tests)
+alike Ascii c high = grind (arith, nat_tests)
 
 some_chars : (t : List ℕ) → 0 < byte_len t → 0 < length t
 some_chars [] some = some
 some_chars (c ∷ t) some = omega arith
 
-is_run : (wide : Bool) (rest : List ℕ) (n : ℕ) → IsUtf8 rest →
-    n ≡ prefix_len (is_plain wide) rest → 0 < n → IsRun (is_plain wide) rest n
-is_run wide rest n u is some =
-    let r = char_run (is_plain wide) wide (alike wide) rest u in
-    let k = prefix_len (is_plain wide) rest in
-    subst (λ (m : ℕ). IsRun (is_plain wide) rest m) (sym is) (record {
+is_run : (set : Charset) (rest : List ℕ) (n : ℕ) → IsUtf8 rest →
+    n ≡ prefix_len (is_plain set) rest → 0 < n → IsRun (is_plain set) rest n
+is_run set rest n u is some =
+    let r = char_run (is_plain set) (is_in set 128) (alike set) rest u in
+    let k = prefix_len (is_plain set) rest in
+    subst (λ (m : ℕ). IsRun (is_plain set) rest m) (sym is) (record {
       plain = r.run;
       passes = r.passes;
       spells = r.split;
@@ -189,7 +191,7 @@ run_by : (w : Switches) (style : Style) (before : Before) (n : ℕ)
     IsLeft w style Text (drop n rest) new suffix total
 run_by w style before n rest text new suffix total apart run pushed (items, b, whole) =
     let plain = run.plain in
-    let split = split_plain (keeps_chars style.escapes) w plain (chars (drop n rest)) suffix items
+    let split = split_plain (plain_charset style.escapes) w plain (chars (drop n rest)) suffix items
     run.passes (run.spells ∙ b.spells) b.body in
     let after = rewritten_items style Text split.others in
     let later = body_text after ++ 34 ∷ suffix in
@@ -212,8 +214,8 @@ run_by w style before n rest text new suffix total apart run pushed (items, b, w
 run_at : (style : Style) (before : Before) (rest : List ℕ) (n : ℕ) → IsUtf8 rest →
     n ≡ run_len style.escapes before rest → 0 < n →
     IsApart before × IsRun (is_run_char style) rest n
-run_at style Text rest n u is some = (tt, is_run (keeps_chars style.escapes) rest n u is some)
-run_at style Mark rest n u is some = (tt, is_run (keeps_chars style.escapes) rest n u is some)
+run_at style Text rest n u is some = (tt, is_run (plain_charset style.escapes) rest n u is some)
+run_at style Mark rest n u is some = (tt, is_run (plain_charset style.escapes) rest n u is some)
 run_at style Continuation rest n u is some = absurd (omega arith)
 
 pub take_run : (w : Switches) (style : Style) (before : Before) (n : ℕ)

@@ -16,6 +16,8 @@ use Rattle.litrs_build.specs.RewrittenInteger.{keeps_integers, rewritten_integer
 use Rattle.litrs_build.specs.Pieces.{is_plain}
 use Rattle.litrs_build.specs.Spelling.{char_spelling}
 use Rattle.litrs_build.specs.Written.{quoted_of}
+use Rattle.litrs_build.specs.declared.pieces.Charset.{Charset}
+use Rattle.litrs_build.specs.declared.pieces.Charset.TheVariants.{Ascii, Any}
 use Rattle.litrs_build.specs.declared.rewriting.Before.{Before}
 use Rattle.litrs_build.specs.declared.rewriting.Before.TheVariants.{Text, Mark, Continuation}
 use Rattle.litrs_build.specs.declared.rewriting.Rewriting.{Rewriting}
@@ -70,16 +72,16 @@ abbrev pub after_blanks : Before → Spelling → Spelling
 after_blanks Continuation (Plain c) = if is_blank c then Hex c else Plain c
 after_blanks _ spelling = spelling
 
--- `true` iff each character other than an LF stays as it is.
-abbrev pub keeps_chars : Escapes → Bool
-keeps_chars Needed = false
-keeps_chars _ = true
+-- The set of the characters that stay as they are.
+abbrev pub plain_charset : Escapes → Charset
+plain_charset Needed = Ascii
+plain_charset _ = Any
 
 -- The length of the plain bytes at the front, which are written as they are: of all of them if
 -- characters stay, otherwise of ASCII. After a continuation it is 0.
 abbrev pub run_len : Escapes → Before → List ℕ → ℕ
 run_len escapes Continuation bytes = 0
-run_len escapes _ bytes = prefix_len (is_plain (keeps_chars escapes)) bytes
+run_len escapes _ bytes = prefix_len (is_plain (plain_charset escapes)) bytes
 
 -- The spelling of a character that has only the escapes that are needed.
 abbrev pub needed_char : (quote : ℕ) → Before → ℕ → Spelling

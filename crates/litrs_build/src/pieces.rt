@@ -1,9 +1,9 @@
 //! The pieces of a body between double quotes: plain ASCII, and characters and bytes one by one.
-ghost use Rattle.std.specs.Prelude.{◌≡◌, ◌≤◌, ◌++◌, not, map, take, length, OnOk, string_bytes, if◌then◌else◌};
+ghost use Rattle.std.specs.Prelude.{◌≡◌, ◌≤◌, ◌++◌, not, map, take, length, OnOk, string_bytes};
 ghost use Rattle.std.specs.List.{prefix_len};
 ghost use Rattle.std.specs.Simd.Lanes.{mask_l, chunk};
 ghost use Rattle.litrs_base.specs.Text.{first_passes};
-ghost use Rattle.litrs_build.specs.Pieces.{is_plain, is_plain_ascii, is_escape, piece_text};
+ghost use Rattle.litrs_build.specs.Pieces.{is_plain, is_plain_ascii, is_escape, last_byte, piece_text};
 
 use crate::spelling::Spelling;
 use std::alloc::AllocError;
@@ -11,6 +11,15 @@ use std::simd::prelude::*;
 
 /// The number of bytes that are compared in a step.
 const STEP: usize = 16;
+
+/// The characters of a body that are plain, except `"` and `\`.
+#[derive(Clone, Copy)]
+pub(crate) enum Charset {
+    /// Those from the space to `~`.
+    Ascii,
+    /// Those from the space on.
+    Any,
+}
 
 /// A piece of the text of a body.
 #[derive(Clone, Copy)]
@@ -64,18 +73,18 @@ impl<'a> Piece<'a> {
 pub(crate) fn plain_front(bytes: &[u8]) -> &str
     ensures { result.now ≡ take (prefix_len is_plain_ascii bytes.now) bytes.now }
 {
-    unsafe { str::from_utf8_unchecked(&bytes[..plain_len(bytes, false)]) }
+    unsafe { str::from_utf8_unchecked(&bytes[..plain_len(bytes, Charset::Ascii)]) }
 }
 
-/// Returns the length of the plain ASCII that `bytes` start with. If `wide`, the bytes above 7E are
-/// plain too. If the first byte is not plain, nothing more is read.
+/// Returns the length in bytes of the plain characters of `charset` that `bytes` start with. If the
+/// first byte is not plain, nothing more is read.
 #[inline(always)]
-pub(crate) fn plain_len(bytes: &[u8], wide: bool) -> usize
-    ensures len { result ≡ prefix_len (is_plain wide) bytes.now }
+pub(crate) fn plain_len(bytes: &[u8], charset: Charset) -> usize
+    ensures len { result ≡ prefix_len (is_plain charset) bytes.now }
     ensures within { result ≤ length bytes.now }
 {
-    if begins_plain(bytes, wide) {
-        plain_len_by_lanes(bytes, wide)
+    if begins_plain(bytes, charset) {
+        plain_len_by_lanes(bytes, charset)
     } else {
         0
     }
@@ -83,66 +92,69 @@ pub(crate) fn plain_len(bytes: &[u8], wide: bool) -> usize
 
 /// Returns `true` if the first byte is plain.
 #[inline(always)]
-fn begins_plain(bytes: &[u8], wide: bool) -> bool
-    ensures { result ≡ first_passes (is_plain wide) bytes.now }
+fn begins_plain(bytes: &[u8], charset: Charset) -> bool
+    ensures { result ≡ first_passes (is_plain charset) bytes.now }
 {
     match bytes {
-        [first, ..] => is_plain(*first, wide),
+        [first, ..] => is_plain(*first, charset),
         [] => false,
     }
 }
 
-/// Like [`plain_len`], by 16 bytes a step. It is inlined, so that `wide` is known in each copy.
+/// Like [`plain_len`], by 16 bytes a step. It is inlined, so that `charset` is known in each copy.
 #[inline(always)]
-fn plain_len_by_lanes(bytes: &[u8], wide: bool) -> usize
-    ensures len { result ≡ prefix_len (is_plain wide) bytes.now }
+fn plain_len_by_lanes(bytes: &[u8], charset: Charset) -> usize
+    ensures len { result ≡ prefix_len (is_plain charset) bytes.now }
     ensures within { result ≤ length bytes.now }
 {
     let mut len = 0;
     while bytes.len() - len >= STEP {
-        let others = other_marks(&bytes[len..], wide);
+        let others = other_marks(&bytes[len..], charset);
         if others != 0 {
             return len + others.trailing_zeros() as usize;
         }
         len += STEP;
     }
-    len + short_plain_len(&bytes[len..], wide)
+    len + short_plain_len(&bytes[len..], charset)
 }
 
 /// Like [`plain_len`], byte by byte.
 #[inline(always)]
-fn short_plain_len(bytes: &[u8], wide: bool) -> usize
-    ensures len { result ≡ prefix_len (is_plain wide) bytes.now }
+fn short_plain_len(bytes: &[u8], charset: Charset) -> usize
+    ensures len { result ≡ prefix_len (is_plain charset) bytes.now }
     ensures within { result ≤ length bytes.now }
 {
-    bytes.iter().take_while(|b| is_plain(**b, wide)).count()
+    bytes.iter().take_while(|b| is_plain(**b, charset)).count()
 }
 
 /// Returns `true` if the byte is plain.
 #[inline(always)]
-fn is_plain(byte: u8, wide: bool) -> bool
-    ensures { result ≡ is_plain wide byte }
+fn is_plain(byte: u8, charset: Charset) -> bool
+    ensures { result ≡ is_plain charset byte }
 {
-    byte >= b' ' && (wide || byte <= b'~') && byte != b'"' && byte != b'\\'
+    byte >= b' ' && byte <= last_plain(charset) && byte != b'"' && byte != b'\\'
 }
 
 /// Returns the last plain byte.
 #[inline(always)]
-fn last_plain(wide: bool) -> u8
-    ensures { result ≡ if wide then 255 else 126 }
+fn last_plain(charset: Charset) -> u8
+    ensures { result ≡ last_byte charset }
 {
-    if wide { 255 } else { b'~' }
+    match charset {
+        Charset::Ascii => b'~',
+        Charset::Any => 255,
+    }
 }
 
 /// Returns a mask of the first 16 bytes: bit `i` is set if the byte at `i` is not plain.
 #[inline(always)]
-fn other_marks(bytes: &[u8], wide: bool) -> u64
+fn other_marks(bytes: &[u8], charset: Charset) -> u64
     requires { 16 ≤ length bytes.now }
-    ensures { result ≡ mask_l (map (λ b. not (is_plain wide b)) (chunk 0 16 bytes.now)) }
+    ensures { result ≡ mask_l (map (λ b. not (is_plain charset b)) (chunk 0 16 bytes.now)) }
 {
     let lanes = u8x16::from_slice(bytes);
     (lanes.simd_lt(Simd::splat(b' '))
-        | lanes.simd_gt(Simd::splat(last_plain(wide)))
+        | lanes.simd_gt(Simd::splat(last_plain(charset)))
         | lanes.simd_eq(Simd::splat(b'"'))
         | lanes.simd_eq(Simd::splat(b'\\'))).to_bitmask()
 }

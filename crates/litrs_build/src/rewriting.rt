@@ -20,7 +20,7 @@ ghost use Rattle.litrs_build.specs.WrittenAnew.{HaveSameValue};
 use crate::body_item::{BodyItem, read_item, starts_with};
 use crate::float_style::rewritten_float;
 use crate::integer_style::rewritten_integer;
-use crate::pieces::plain_len;
+use crate::pieces::{Charset, plain_len};
 use crate::spelling::Spelling;
 use crate::style::{Case, Escapes, FloatGroups, Groups, Lines, Style};
 use litrs::{Literal, Text};
@@ -207,8 +207,8 @@ fn run_len(rest: &[u8], before: Before, escapes: Escapes) -> usize
 {
     match before {
         Before::Text | Before::Mark => match escapes {
-            Escapes::Kept | Escapes::Respelled => plain_len(rest, true),
-            Escapes::Needed => plain_len(rest, false),
+            Escapes::Kept | Escapes::Respelled => plain_len(rest, Charset::Any),
+            Escapes::Needed => plain_len(rest, Charset::Ascii),
         },
         Before::Continuation => 0,
     }

@@ -11,7 +11,7 @@ ghost use Rattle.litrs_build.specs.Pieces.{is_escape, piece_text};
 ghost use Rattle.litrs_build.specs.Written.{char_items, written_string};
 
 use crate::error::{BuildError, memory_error};
-use crate::pieces::{Piece, plain_len};
+use crate::pieces::{Charset, Piece, plain_len};
 use crate::spelling::Spelling;
 use litrs::StringLit;
 use litrs_lex::check_suffix;
@@ -107,7 +107,7 @@ fn first_piece(text: &str, follows_mark: bool) -> (Piece<'_>, &str)
     ensures shorter { length result.1.now < length text.now }
     ensures utf8 { IsUtf8 result.1.now }
 {
-    let (plain, rest) = text.split_at(plain_len(text.as_bytes(), false));
+    let (plain, rest) = text.split_at(plain_len(text.as_bytes(), Charset::Ascii));
     if !plain.is_empty() {
         return (Piece::Plain(plain), rest);
     }

@@ -112,11 +112,10 @@ fn digits<B: Text>(lit: &IntegerLit<B>) -> &[u8]
 /// it.
 ///
 /// For example, `1_0.5E-1f32` is 1.05. It is rounded once, ties to even; a number that is too
-/// large, such as `1e400`, is infinite. It allocates only if there is an underscore. See [the
-/// reference][ref].
+/// large, such as `1e400`, is infinite. It allocates only if there is an underscore. See
+/// "Floating-point literal expressions" in [the reference][ref].
 ///
-/// [ref]:
-/// https://doc.rust-lang.org/reference/expressions/literal-expr.html#floating-point-literal-expressions
+/// [ref]: https://doc.rust-lang.org/reference/expressions/literal-expr.html
 ///
 /// # Errors
 ///

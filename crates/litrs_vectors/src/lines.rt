@@ -152,8 +152,8 @@ pub fn try_prefix(alloc: Global, text: &str, answer: &str) -> Outcome {
     outcome.and(try_step(alloc, &collector.feed_prefix(last), answer))
 }
 
-/// Tries what a line was answered: the literal and the rest with `|` between them, or the length and
-/// the error of a malformed literal.
+/// Tries what a line was answered: the literal and the rest with `|` between them, or the length
+/// and the error of a malformed literal.
 fn try_step(alloc: Global, step: &Result<PrefixStep, AllocError>, answer: &str) -> Outcome {
     match step {
         Ok(PrefixStep::More) => agrees(FEED_PREFIX, answer == "more"),

@@ -2,8 +2,8 @@
 //! shows the error, at most 100 columns of a line.
 #![tactic(auto)]
 
-ghost use Rattle.std.specs.Prelude.{◌≡◌, ◌↔◌, IfOk, IfSome, IsNone, IsTrue, string_bytes};
-ghost use Rattle.uses_prompt.specs.Answered.{Drops, IsAnswerTo, IsAnswered, IsLastAnswer, IsReply, Quits};
+ghost use Rattle.std.specs.Prelude.{◌≡◌, ◌↔◌, IfOk, IfSome, IsNone, string_bytes};
+ghost use Rattle.uses_prompt.specs.Answered.{IsAnswerTo, IsAnswered, IsLastAnswer, IsReply, Quits};
 
 use litrs::{Literal, ParseErrorKind};
 use litrs_diagnostic::shown_refusal;
@@ -36,21 +36,13 @@ fn answer_to(alloc: Global, text: &str) -> Result<String, AllocError>
 {
     match Literal::parse(alloc, text) {
         Ok(literal) => explanation(alloc, &literal),
-        Err(error) => match error.kind() {
-            ParseErrorKind::OutOfMemory => Err(AllocError),
-            _ => shown_refusal(alloc, "prompt", text, &error, 100),
-        },
+        Err(error) if error.kind() == ParseErrorKind::OutOfMemory => Err(AllocError),
+        Err(error) => shown_refusal(alloc, "prompt", text, &error, 100),
     }
 }
 
-/// Returns `true` if `line` drops the lines that are held: if it is `:cancel`, or empty if none is.
-fn drops(collector: &Collector, line: &str) -> bool
-    ensures { IsTrue result ↔ Drops collector.now line.now }
-{
-    line == if collector.is_empty() { "" } else { ":cancel" }
-}
-
-/// Returns the answer to a line.
+/// Returns the answer to a line. It is empty if the line drops the lines that are held: if it is
+/// `:cancel`, or empty if none is held.
 ///
 /// # Errors
 ///
@@ -58,16 +50,15 @@ fn drops(collector: &Collector, line: &str) -> bool
 fn answer(alloc: Global, collector: &mut Collector, line: &str) -> Result<String, AllocError>
     ensures { IfOk result (λ a. IsAnswered collector.old line.now collector.new (string_bytes a)) }
 {
-    if drops(collector, line) {
+    let is_first = collector.is_empty();
+    if matches!((is_first, line), (true, "") | (false, ":cancel")) {
         collector.clear();
         return Ok(String::new(alloc));
     }
-    let is_first = collector.is_empty();
     if collector.push(line)? {
         return String::from_str(alloc, if is_first { HINT } else { "" });
     }
-    let text = collector.take_with(line)?;
-    answer_to(alloc, text.as_str())
+    answer_to(alloc, collector.take_with(line)?.as_str())
 }
 
 /// Returns the answer to the end of the input: the error of the lines that the collector holds, if

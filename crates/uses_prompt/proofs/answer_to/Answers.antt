@@ -1,16 +1,17 @@
 -- A text that is not a literal is refused, and that is shown.
-use Rattle.std.proofs.Common.{inl, inr, string_bytes, ap, ◌∙◌}
+use Rattle.std.proofs.Common.{inl, inr, ap, sym}
 use Rattle.std.proofs.lemmas.Result.{IfOk-weaker}
+use denote.Enum.Bare.{same_false}
+use Rattle.litrs.specs.contracts.ParseErrorKind.{the_type}
+use Rattle.litrs.specs.declared.ParseErrorKind.TheVariants.{OutOfMemory}
 use Rattle.litrs_lines.specs.Refusal.{Refusal}
-use Rattle.uses_prompt.specs.Answered.{IsAnswerTo, ShowsRefusal}
 use Rattle.uses_prompt.proofs.answer_to.Goals as goal
 
-pub returns-in_default : goal.returns-in_default
-returns-in_default c =
-    IfOk-weaker c.shown_refusal.result (λ answer. ShowsRefusal c.args.text.now c.in-Err.error (string_bytes answer))
-    (λ answer. IsAnswerTo c.args.text.now (string_bytes answer))
-    (λ answer shows. elim (c.in-Err.ensures.refused) [
+pub returns-in-Err-2 : goal.returns-in-Err-2
+returns-in-Err-2 c =
+    IfOk-weaker c.shown_refusal.result _ _ (λ answer shows. elim (c.in-Err.ensures.refused) [
       | inl refused ↦ inr (c.in-Err.error, refused, shows)
-      | inr lack ↦ absurd (c.in_default.not-OutOfMemory (c.kind.ensures ∙ ap (λ (r : Refusal). r.kind) lack.error))
-    ])
-    c.shown_refusal.ensures.text
+      | inr lack ↦
+          let kind = ap (λ (r : Refusal). r.kind) lack.error in
+          absurd (same_false the_type c.kind.result OutOfMemory (sym c.if-eq.ensures) (cc))
+    ]) c.shown_refusal.ensures.text

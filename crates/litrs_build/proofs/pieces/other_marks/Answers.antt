@@ -8,5 +8,5 @@ use Rattle.litrs_build.proofs.pieces.other_marks.Goals as goal
 pub returns : goal.returns
 returns c =
     let bytes = c.args.bytes.now in
-    marks_other c.args.wide (chunk 0 16 bytes) 16 _ (length-chunk 0 16 bytes (omega arith))
+    marks_other c.args.charset (chunk 0 16 bytes) 16 _ (length-chunk 0 16 bytes (omega arith))
     (omega arith) (chunk-fits w8 0 16 bytes c.type_inv.bytes) c.last_plain.ensures

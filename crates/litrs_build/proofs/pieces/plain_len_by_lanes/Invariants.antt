@@ -6,8 +6,8 @@ use Rattle.litrs_build.proofs.pieces.plain_len_by_lanes.Given as goal
 
 abbrev pub invariant-loop-len : goal.invariant-loop-len
 invariant-loop-len l =
-    (prefix_len (is_plain l.wide) l.bytes
-    ≡ l.len + prefix_len (is_plain l.wide) (drop l.len l.bytes))
+    (prefix_len (is_plain l.charset) l.bytes
+    ≡ l.len + prefix_len (is_plain l.charset) (drop l.len l.bytes))
     × (l.len ≤ length l.bytes)
 
 abbrev pub decreases-loop-len : goal.decreases-loop-len
