@@ -43,7 +43,6 @@
 //! ```
 #![tactic(auto)]
 
-pub use again::unescaped;
 pub use byte_strings::byte_string;
 pub use c_strings::c_string;
 pub use chars::{byte, char};
@@ -55,8 +54,8 @@ pub use raw::{raw_byte_string, raw_c_string, raw_string};
 pub use rewriting::rewritten;
 pub use strings::string;
 pub use style::{Case, Escapes, FloatGroupLens, FloatGroups, GroupLens, Groups, Lines, Style};
+pub use unescaping::unescaped;
 
-mod again;
 mod body_item;
 mod byte_strings;
 mod c_strings;
@@ -74,3 +73,4 @@ mod rewriting;
 mod spelling;
 mod strings;
 mod style;
+mod unescaping;

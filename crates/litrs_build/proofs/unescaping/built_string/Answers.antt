@@ -8,7 +8,7 @@ use Rattle.litrs_build.specs.declared.error.BuildError.{BuildError}
 use Rattle.litrs_build.specs.Errors.{IsErrorOf}
 use Rattle.litrs_build.specs.Raw.{raw_error, written_raw}
 use Rattle.litrs_build.proofs.WrittenAnew.{raw_again, raw_is_possible}
-use Rattle.litrs_build.proofs.again.built_string.Goals as goal
+use Rattle.litrs_build.proofs.unescaping.built_string.Goals as goal
 
 pub returns-then-is_raw_string-clause-parts : goal.returns-then-is_raw_string-clause-parts
 returns-then-is_raw_string-clause-parts g c =

@@ -10,7 +10,7 @@ use Rattle.litrs_build.specs.Errors.{IsErrorOf}
 use Rattle.litrs_build.specs.Raw.{raw_c_error, written_raw}
 use Rattle.litrs_build.proofs.RawLiterals.{no_nul_error}
 use Rattle.litrs_build.proofs.WrittenAnew.{raw_again, raw_is_possible, string_has_suffix}
-use Rattle.litrs_build.proofs.again.built_c_string.Goals as goal
+use Rattle.litrs_build.proofs.unescaping.built_c_string.Goals as goal
 
 pub returns-then-is_raw_c_string-clause-parts : goal.returns-then-is_raw_c_string-clause-parts
 returns-then-is_raw_c_string-clause-parts g c =

@@ -3,7 +3,7 @@ use Rattle.std.proofs.Common.{◌≡◌, IfOk, subst}
 use Rattle.litrs_grammar.specs.CharByte.{CharParts}
 use Rattle.litrs.specs.CharLiteral.{char_parts}
 use Rattle.litrs_build.specs.Written.{written_char}
-use Rattle.litrs_build.proofs.again.built_char.Goals as goal
+use Rattle.litrs_build.proofs.unescaping.built_char.Goals as goal
 
 pub returns-clause-parts : goal.returns-clause-parts
 returns-clause-parts g c =
