@@ -26,9 +26,9 @@ quit_is_utf8 line (inl is) = subst IsUtf8 (sym is) (IsUtf8-from_ascii (codes ":q
 quit_is_utf8 line (inr is) = subst IsUtf8 (sym is.0) (IsUtf8-from_ascii (codes ":quit") (quit_is_ascii [] IsAscii-nil))
 
 -- a CR at the end is stripped
-pub stripped : (r : Option (Bor (List ℕ))) (line out : Bor (List ℕ)) →
+pub without_return : (r : Option (Bor (List ℕ))) (line out : Bor (List ℕ)) →
     MatchOption r ((front : List ℕ) → line.now ≢ front ++ 13 ∷ []) (λ x. line.now ≡ x.now ++ 13 ∷ []) →
     out ≡ unwrap_or r line → IsWithoutReturn line.now out.now
-stripped None line out none is = inr (ap (λ (b : Bor (List ℕ)). b.now) (sym is), none)
-stripped (Some x) line out found is =
+without_return None line out none is = inr (ap (λ (b : Bor (List ℕ)). b.now) (sym is), none)
+without_return (Some x) line out found is =
     inl (found ∙ ap (λ (b : Bor (List ℕ)). b.now ++ 13 ∷ []) (sym is))

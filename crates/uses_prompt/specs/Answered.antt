@@ -14,8 +14,8 @@ use Rattle.litrs.specs.declared.ParseError.{ParseError}
 
 -- The line drops the lines that are held: it is `:cancel`, or empty if no line is held.
 abbrev pub Drops : (held line : List ℕ) → Type 0
-Drops [] line = line ≡ []
-Drops (c ∷ held) line = line ≡ codes ":cancel"
+Drops held line =
+    ((held ≡ []) × (line ≡ [])) ⊎ ((held ≢ []) × (line ≡ codes ":cancel"))
 
 -- The hint after the first line of a literal that continues.
 abbrev pub hint : (held : List ℕ) → List ℕ

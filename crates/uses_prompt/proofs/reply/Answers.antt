@@ -4,17 +4,27 @@ use Rattle.std.specs.Prelude.{codes}
 use Rattle.std.proofs.lemmas.Bool.{false≢true}
 use Rattle.std.proofs.lemmas.Str.Pattern.{strip_suffix_char}
 use Rattle.uses_prompt.specs.Answered.{IsWithoutReturn}
-use Rattle.uses_prompt.proofs.Said.{stripped, without_return_is_unique, quit_is_utf8}
+use Rattle.uses_prompt.proofs.Said.{without_return, without_return_is_unique, quit_is_utf8}
 use Rattle.uses_prompt.proofs.reply.Goals as goal
 
-pub returns-in_ok-answer-in_default-clause-quits : goal.returns-in_ok-answer-in_default-clause-quits
-returns-in_ok-answer-in_default-clause-quits c =
-    let without = stripped c.strip_suffix.result c.in-Ok.line c.unwrap_or.result
-    (strip_suffix_char 13 c.in-Ok.line.now c.strip_suffix.result c.strip_suffix.ensures.cases (lit< tt))
-    c.unwrap_or.ensures in (
-      λ e. absurd (false≢true (sym e)),
-      λ quits. absurd (c.in_default.not-text (without_return_is_unique c.args.line.now c.unwrap_or.result.now (codes ":quit") (subst (λ (bytes : List ℕ). IsWithoutReturn bytes c.unwrap_or.result.now) c.in-Ok.ensures.cases.0 without) quits)),
-    )
+pub returns-in_ok-answer-in_default : goal.returns-in_ok-answer-in_default
+returns-in_ok-answer-in_default c =
+    let stripped = c.unwrap_or.result.now in
+    let without = subst (λ (bytes : List ℕ). IsWithoutReturn bytes stripped) c.in-Ok.ensures.cases.0
+    (without_return c.strip_suffix.result c.in-Ok.line c.unwrap_or.result (strip_suffix_char 13
+    c.in-Ok.line.now c.strip_suffix.result c.strip_suffix.ensures.cases (lit< tt))
+    c.unwrap_or.ensures) in
+    record {
+      quits = (
+        λ e. absurd (false≢true (sym e)),
+        λ quits. absurd (c.in_default.not-text
+            (without_return_is_unique c.args.line.now stripped (codes ":quit") without quits)),
+      );
+      answered = record {
+        text = λ _. (stripped, without, c.in_ok-answer-in_default.ensures);
+        ignored = λ not. absurd (not c.in-Ok.ensures.cases.1);
+      };
+    }
 
 pub returns-in_ok-format-in-Err-clause-quits : goal.returns-in_ok-format-in-Err-clause-quits
 returns-in_ok-format-in-Err-clause-quits c = (λ e. absurd (false≢true (sym e)), λ quits. absurd (c.in-Err.ensures.cases.0 (quit_is_utf8 c.args.line.now quits)))
