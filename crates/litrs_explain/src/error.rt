@@ -3,7 +3,7 @@ use std::alloc::AllocError;
 use std::{fmt, io};
 
 /// An error that ends a run, or the reading of one input.
-#[derive(Drop)]
+#[derive(Clone, Copy)]
 pub(crate) enum Error {
     /// An input could not be opened or read.
     Input(io::Error),

@@ -396,7 +396,7 @@ impl<'a> Explainer<'a> {
             kind: Some(error.kind()),
             is_incomplete: is_incomplete(&text[piece.start..piece.end], error),
         };
-        self.reports.add_problem(problem)
+        self.reports.add_problem(&problem)
     }
 
     /// Reports the first bytes of a line that are not UTF-8. If literals are found in any text, the
@@ -426,7 +426,7 @@ impl<'a> Explainer<'a> {
             line: start.line,
             column: start.column.saturating_add(1),
         };
-        self.reports.add_problem(Problem {
+        let problem = Problem {
             source,
             place: self.next,
             marked: source.len()..source.len(),
@@ -437,7 +437,8 @@ impl<'a> Explainer<'a> {
             },
             kind: None,
             is_incomplete: false,
-        })
+        };
+        self.reports.add_problem(&problem)
     }
 }
 

@@ -64,50 +64,52 @@ pub(crate) fn command<'a>(alloc: Global) -> Result<Command<'a>, AllocError> {
     let format = "Lines for a person, or one JSON object a line";
     let color = "Color the lines; auto: if they go to a terminal";
     let comments = "With --prefix: skip no comments, those from #, or those of Rust";
+    let arguments = [
+        prefix(alloc),
+        choice(alloc, "comments", comments, &COMMENTS, "rust"),
+        text(alloc),
+        choice(alloc, "format", format, &FORMATS, "text"),
+        choice(alloc, "color", color, &COLORS, "auto"),
+        files(alloc),
+    ];
     Command::new(alloc, "litrs_explain")
         .version(VERSION)
         .about("Explains the Rust literals in files")
         .args_override_self(true)
-        .arg(prefix(alloc))?
-        .arg(choice(alloc, "comments", &COMMENTS, "rust", comments))?
-        .arg(text(alloc))?
-        .arg(choice(alloc, "format", &FORMATS, "text", format))?
-        .arg(choice(alloc, "color", &COLORS, "auto", color))?
-        .arg(files(alloc))
+        .args(Vec::from_array(alloc, arguments)?)
+}
+
+/// Returns the option `--name`.
+fn option<'a>(alloc: Global, name: &'a str, help: &'a str) -> Arg<'a> {
+    Arg::new(alloc, name).long(name).help(help)
 }
 
 /// Returns the flag for any text.
 fn prefix<'a>(alloc: Global) -> Arg<'a> {
-    Arg::new(alloc, "prefix")
-        .long("prefix")
-        .action(ArgAction::SetTrue)
-        .help("Find the literals in any text; without it, lines are literals")
+    let help = "Find the literals in any text; without it, lines are literals";
+    option(alloc, "prefix", help).action(ArgAction::SetTrue)
 }
 
 /// Returns the option for a text.
 fn text<'a>(alloc: Global) -> Arg<'a> {
-    Arg::new(alloc, "text")
+    option(alloc, "text", "Explain this text; may be repeated")
         .short('e')
-        .long("text")
         .value_name("TEXT")
         .action(ArgAction::Append)
         .allow_hyphen_values(true)
-        .help("Explain this text; may be repeated")
 }
 
 /// Returns an option with one of these values.
 fn choice<'a>(
     alloc: Global,
     name: &'a str,
+    help: &'a str,
     values: &'a [&'a str],
     default: &'a str,
-    help: &'a str,
 ) -> Arg<'a> {
-    Arg::new(alloc, name)
-        .long(name)
+    option(alloc, name, help)
         .value_parser(values)
         .default_value(default)
-        .help(help)
 }
 
 /// Returns the argument for files.

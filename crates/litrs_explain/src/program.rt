@@ -7,6 +7,7 @@ use crate::explainer::Explainer;
 use crate::options::{Options, Terminal, command, options_of};
 use crate::output::Output;
 use crate::text::first_line;
+use clap::ArgMatches;
 use litrs::Literal;
 use litrs_lexer::strip_shebang;
 use std::alloc::AllocError;
@@ -51,22 +52,27 @@ pub(crate) fn run_program(rt: &HostRuntime, is_terminal: bool) -> u8 {
 /// Does what the arguments ask for, and returns the status.
 fn run_arguments(rt: &HostRuntime, is_terminal: bool) -> Result<u8, Error> {
     let words = arguments(rt)?;
-    let command = command(rt.alloc())?;
-    match &command.try_get_matches_from(words.as_slice()) {
-        Ok(matches) => {
-            let is_plain = is_plain(rt)?;
-            let terminal = Terminal {
-                is_terminal,
-                is_plain,
-            };
-            let mut run = Run::new(*rt, options_of(matches, terminal), is_terminal);
-            let texts = matches.get_strs("text").unwrap_or(&[]);
-            let files = matches.get_strs("file").unwrap_or(&[]);
-            let ended = run.explain_all(texts, files);
-            run.finish(ended)
-        }
+    let parsed = command(rt.alloc())?.try_get_matches_from(words.as_slice());
+    let ended = match &parsed {
+        Ok(matches) => run_matches(rt, matches, is_terminal),
         Err(error) => answer(rt, &words, error),
-    }
+    };
+    drop(parsed);
+    ended
+}
+
+/// Explains what a command line names, and returns the status.
+fn run_matches(rt: &HostRuntime, matches: &ArgMatches<'_>, is_terminal: bool) -> Result<u8, Error> {
+    let is_plain = is_plain(rt)?;
+    let terminal = Terminal {
+        is_terminal,
+        is_plain,
+    };
+    let mut run = Run::new(*rt, options_of(matches, terminal), is_terminal);
+    let texts = matches.get_strs("text").unwrap_or(&[]);
+    let files = matches.get_strs("file").unwrap_or(&[]);
+    let ended = run.explain_all(texts, files);
+    run.finish(ended)
 }
 
 /// Prints the help or the version, or what is wrong with the arguments `words`.
@@ -246,9 +252,19 @@ impl<'a> Run<'a> {
         let mut reader = BufReader::new(self.rt.alloc(), input).map_err(Error::Input)?;
         let mut line = Vec::new(self.rt.alloc());
         self.is_first_line = true;
+        self.explain_reader(&mut reader, &mut line)?;
+        self.explainer.finish()
+    }
+
+    /// Explains the lines of a reader. The beginning of the next one is in `line`.
+    fn explain_reader<R: BufRead>(
+        &mut self,
+        reader: &mut R,
+        line: &mut Vec<u8>,
+    ) -> Result<(), Error> {
         for _ in 0..u64::MAX {
             let len = match reader.fill_buf() {
-                Ok(bytes) => self.explain_bytes(&mut line, bytes)?,
+                Ok(bytes) => self.explain_bytes(line, bytes)?,
                 Err(error) if error.kind() == ErrorKind::Interrupted => continue,
                 Err(error) => return Err(Error::Input(error)),
             };
@@ -257,10 +273,11 @@ impl<'a> Run<'a> {
             }
             reader.consume(len);
         }
-        if !line.is_empty() {
-            self.explain_line(&line)?;
+        if line.is_empty() {
+            Ok(())
+        } else {
+            self.explain_line(line)
         }
-        self.explainer.finish()
     }
 
     /// Explains the lines that end in `bytes`, the first of them after its beginning in `line`.
@@ -299,10 +316,11 @@ impl<'a> Run<'a> {
         let argument = source.argument();
         let name = shown(self.rt.alloc(), argument)?;
         tell(&self.rt, format_args!("{name}: {error}"));
-        let is_literal = Literal::parse(self.rt.alloc(), argument).is_ok();
-        if is_absent(error) && is_literal {
+        let parsed = Literal::parse(self.rt.alloc(), argument);
+        if is_absent(error) && parsed.is_ok() {
             tell(&self.rt, TEXT_HELP);
         }
+        drop(parsed);
         Ok(())
     }
 

@@ -9,7 +9,7 @@ use crate::json::{literal_object, problem_object};
 use crate::options::Options;
 use crate::output::Output;
 use crate::place::{Place, Span};
-use litrs::{Buffer, Literal, ParseErrorKind};
+use litrs::{Buffer, FloatLit, IntegerLit, Literal, ParseErrorKind};
 use litrs_diagnostic::{Color, Diagnostic, Painted, shown, shown_in_color};
 use litrs_explanation::push_explanation;
 use std::alloc::{AllocError, Global};
@@ -124,13 +124,13 @@ impl<'a> Reports<'a> {
     }
 
     /// Adds the report on an error.
-    pub(crate) fn add_problem(&mut self, problem: Problem) -> Result<(), Error> {
+    pub(crate) fn add_problem(&mut self, problem: &Problem) -> Result<(), Error> {
         self.has_errors = true;
         self.errors = self.errors.saturating_add(1);
         let report = if self.options.json {
-            problem_object(self.alloc, self.name, &problem)?
+            problem_object(self.alloc, self.name, problem)?
         } else {
-            self.problem_lines(&problem)?
+            self.problem_lines(problem)?
         };
         self.output.add(report.as_str())
     }
@@ -149,7 +149,7 @@ impl<'a> Reports<'a> {
         lines.push_str(note(problem.is_incomplete))?;
         if problem.kind == Some(ParseErrorKind::InvalidLiteral) {
             let text = &problem.source[problem.marked.start..problem.marked.end];
-            lines.push_str(sign_note(self.alloc, text))?;
+            lines.push_str(sign_note(text))?;
         }
         Ok(lines)
     }
@@ -160,12 +160,8 @@ fn push_place(out: &mut String, name: &str, place: Place) -> Result<(), AllocErr
     ensures { OnOk result (string_bytes out.new
         ≡ string_bytes out.old ++ place_text name.now place) }
 {
-    out.push_str(name)?;
-    out.push(':')?;
-    out.push_str(itoa::Buffer::new().format(place.line))?;
-    out.push(':')?;
-    out.push_str(itoa::Buffer::new().format(place.column))?;
-    out.push(':')
+    let Place { line, column } = place;
+    write!(out, "{name}:{line}:{column}:")
 }
 
 /// Like [`push_place`], in color.
@@ -204,19 +200,14 @@ fn note(is_incomplete: bool) -> &'static str {
 
 /// Returns the line on the sign of a text that is not a literal, or an empty text if it is not a
 /// minus sign and a number.
-fn sign_note(alloc: Global, text: &str) -> &'static str {
-    let Some(number) = text.strip_prefix('-') else {
-        return "";
-    };
-    // A number is parsed without an allocation.
-    if !number.starts_with(|c: char| c.is_ascii_digit()) {
-        return "";
-    }
-    match Literal::parse(alloc, number) {
-        Ok(Literal::Integer(_)) =>
-            "  a sign is not part of a literal: without it, this is an integer\n",
-        Ok(Literal::Float(_)) => "  a sign is not part of a literal: without it, this is a float\n",
-        _ => "",
+fn sign_note(text: &str) -> &'static str {
+    let number = text.strip_prefix('-').unwrap_or("");
+    if IntegerLit::parse(number).is_ok() {
+        "  a sign is not part of a literal: without it, this is an integer\n"
+    } else if FloatLit::parse(number).is_ok() {
+        "  a sign is not part of a literal: without it, this is a float\n"
+    } else {
+        ""
     }
 }
 

@@ -27,7 +27,8 @@ pub fn try_calls(alloc: Global, text: &str, is_literal: bool) -> Outcome {
 
 /// Tries the calls on the literal of a text, or the message on a rejected one.
 fn try_parsed(alloc: Global, text: &str) -> Outcome {
-    match &Literal::parse(alloc, text) {
+    let parsed = Literal::parse(alloc, text);
+    let outcome = match &parsed {
         Ok(lit) => try_literal(alloc, lit),
         Err(e) => match e.kind() {
             ParseErrorKind::OutOfMemory => Outcome::Refused(("Literal", "parse", "&str")),
@@ -36,7 +37,9 @@ fn try_parsed(alloc: Global, text: &str) -> Outcome {
                 shown_refusal(alloc, "row", text, e, 140),
             ),
         },
-    }
+    };
+    drop(parsed);
+    outcome
 }
 
 /// Tries the calls on a literal and its value.

@@ -37,25 +37,47 @@ fn is_place(text: &str, lines: &Lines, place: &str) -> bool
 
 /// Tries the message on the first of the ranges of a row, where the others are further ones.
 pub fn try_message(alloc: Global, text: &str, answer: &str) -> Outcome {
-    let (marks, wanted) = split(answer);
+    try_placed(alloc, text, "1:1:140", answer)
+}
+
+/// Like [`try_message`], where the first field is the line and the column of the first character,
+/// and the width.
+pub fn try_first(alloc: Global, text: &str, answer: &str) -> Outcome {
+    let (place, answer) = split(answer);
+    try_placed(alloc, text, place, answer)
+}
+
+/// Tries the message on a text that begins at this place.
+fn try_placed(alloc: Global, text: &str, place: &str, answer: &str) -> Outcome {
+    // A label may contain a tab, but no line of a message does.
+    let (marks, wanted) = answer.rsplit_once('\t').unwrap_or((answer, ""));
     let (mark, others) = marks.split_once('|').unwrap_or((marks, ""));
     match label_of(text, mark) {
-        Some(first) => try_labels(alloc, first, others, wanted),
+        Some(first) => try_labels(alloc, place, first, others, wanted),
         None => agrees(("litrs_diagnostic", "shown", "&str"), false),
     }
 }
 
 /// Tries the message on the range of the label `first`, with those of `marks`.
-fn try_labels(alloc: Global, first: Label, marks: &str, wanted: &str) -> Outcome {
+fn try_labels(alloc: Global, place: &str, first: Label, marks: &str, wanted: &str) -> Outcome {
+    let mut numbers = place.split(':');
+    let (line, column) = (number(numbers.next()), number(numbers.next()));
     match &labels_of(alloc, first.source, marks) {
         Ok(labels) => {
             let diagnostic = Diagnostic::new("row", first.source, first.start..first.end, "here")
+                .with_first(line, column)
+                .with_width(size(numbers.next()))
                 .with_label(first.text)
                 .with_labels(labels.as_slice());
             try_shown(alloc, &diagnostic, wanted)
         }
         Err(error) => Outcome::Ends(*error),
     }
+}
+
+/// Returns the number of a line or a column that a field writes.
+fn number(field: Option<&str>) -> u32 {
+    field.unwrap_or("").parse::<u32>().unwrap_or(0)
 }
 
 /// Tries the lines of a message.

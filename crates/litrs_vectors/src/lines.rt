@@ -74,7 +74,10 @@ fn ended(status: ExitCode) -> Outcome {
 /// Feeds a line. Returns `true` if the lines are then a literal, `false` if they may become one,
 /// and `None` if they are rejected.
 fn feed(collector: &mut Collector, line: &str) -> Result<Option<bool>, AllocError> {
-    step_of(&collector.feed(line))
+    let fed = collector.feed(line);
+    let step = step_of(&fed);
+    drop(fed);
+    step
 }
 
 /// Returns the answer of [`feed`] for this result.
@@ -92,16 +95,19 @@ pub fn try_collector(alloc: Global, text: &str, is_literal: bool) -> Outcome {
     if text.len() > LONGEST {
         return Outcome::Holds;
     }
-    let mut collector = Collector::new(alloc);
+    try_lines(&mut Collector::new(alloc), text, is_literal)
+}
+
+/// Like [`try_collector`], with a collector that is empty.
+fn try_lines(collector: &mut Collector, text: &str, is_literal: bool) -> Outcome {
     let mut last = Ok(None);
     for line in text.split('\n') {
-        last = last.and(feed(&mut collector, line));
+        last = last.and(feed(collector, line));
     }
     match last {
-        Ok(step) => agrees(FEED, (step == Some(true)) == is_literal).and(try_cleared(
-            &mut collector,
-            text,
-        )),
+        Ok(step) => {
+            agrees(FEED, (step == Some(true)) == is_literal).and(try_cleared(collector, text))
+        }
         Err(_) => Outcome::Refused(FEED),
     }
 }
@@ -145,30 +151,42 @@ fn try_piece(collector: &mut Collector, piece: &str, is_last: bool) -> Outcome {
 pub fn try_prefix(alloc: Global, text: &str, answer: &str) -> Outcome {
     let (lines, last) = text.rsplit_once('\n').unwrap_or(("", text));
     let mut collector = Collector::new(alloc);
+    let outcome = feed_prefixes(&mut collector, lines);
+    let step = collector.feed_prefix(last);
+    let outcome = outcome.and(try_step(alloc, &step, answer));
+    drop(step);
+    outcome
+}
+
+/// Feeds lines after which others follow.
+fn feed_prefixes(collector: &mut Collector, lines: &str) -> Outcome {
     let mut outcome = Outcome::Holds;
     for line in lines.split('\n') {
         outcome = outcome.and(made(FEED_PREFIX, collector.feed_prefix(line)));
     }
-    outcome.and(try_step(alloc, &collector.feed_prefix(last), answer))
+    outcome
 }
 
 /// Tries what a line was answered: the literal and the rest with `|` between them, or the length
 /// and the error of a malformed literal.
 fn try_step(alloc: Global, step: &Result<PrefixStep, AllocError>, answer: &str) -> Outcome {
-    match step {
-        Ok(PrefixStep::More) => agrees(FEED_PREFIX, answer == "more"),
-        Ok(PrefixStep::Literal(lit, rest)) => {
-            let (literal, end) = answer.split_once('|').unwrap_or(("", ""));
-            agrees(FEED_PREFIX, lit.raw_input() == literal && *rest == end)
+    let holds = match step {
+        Ok(PrefixStep::More) => answer == "more",
+        Ok(PrefixStep::Literal(lit, rest)) => is_literal(lit.raw_input(), rest, answer),
+        Ok(PrefixStep::NoLiteral) => answer == "none",
+        Ok(PrefixStep::Malformed(e)) => {
+            let fields = format!(in alloc; "{}: {}", e.len, e.error);
+            return written(FEED_PREFIX, fields, answer.as_bytes());
         }
-        Ok(PrefixStep::NoLiteral) => agrees(FEED_PREFIX, answer == "none"),
-        Ok(PrefixStep::Malformed(e)) => written(
-            FEED_PREFIX,
-            format!(in alloc; "{}: {}", e.len, e.error),
-            answer.as_bytes(),
-        ),
-        Err(_) => Outcome::Refused(FEED_PREFIX),
-    }
+        Err(_) => return Outcome::Refused(FEED_PREFIX),
+    };
+    agrees(FEED_PREFIX, holds)
+}
+
+/// Returns `true` if `answer` says this literal and this rest.
+fn is_literal(literal: &str, rest: &str, answer: &str) -> bool {
+    let (said, end) = answer.split_once('|').unwrap_or(("", ""));
+    literal == said && rest == end
 }
 
 /// Tries the calls that need no memory, of which no contract says so: a run over an empty input,

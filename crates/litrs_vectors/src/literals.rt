@@ -63,8 +63,10 @@ fn try_owned(
 ) -> Outcome {
     match copy {
         Ok(copy) => {
-            let parsed = &parse_by(alloc, parse, copy);
-            try_parsed(alloc, parse, (kind, "String"), parsed, answer)
+            let parsed = parse_by(alloc, parse, copy);
+            let outcome = try_parsed(alloc, parse, (kind, "String"), &parsed, answer);
+            drop(parsed);
+            outcome
         }
         Err(_) => Outcome::Refused(("String", "copy", "String")),
     }

@@ -53,11 +53,9 @@ pub fn try_rewritten(alloc: Global, text: &String, answer: &str) -> Outcome {
 
 /// Tries the literal of a text over both buffers, and that of the answer.
 fn try_texts(alloc: Global, text: &String, style: &Style, answer: &str) -> Outcome {
-    let (name, again) = (call("rewritten"), call("rewritten_again"));
-    let lit = &Literal::parse(alloc, text.as_str());
-    try_style(alloc, name, lit, style, answer)
+    try_text(alloc, call("rewritten"), text.as_str(), style, answer)
         .and(try_copy(alloc, text.copy(alloc), style, answer))
-        .and(try_style(alloc, again, &Literal::parse(alloc, answer), style, answer))
+        .and(try_text(alloc, call("rewritten_again"), answer, style, answer))
 }
 
 /// Tries the literal of a text that it owns, unless the copy was refused.
@@ -67,15 +65,25 @@ fn try_copy(
     style: &Style,
     answer: &str,
 ) -> Outcome {
-    let call = ("litrs_build", "rewritten", "String");
     match copy {
-        Ok(copy) => try_style(alloc, call, &Literal::parse(alloc, copy), style, answer),
+        Ok(copy) => {
+            let call = ("litrs_build", "rewritten", "String");
+            try_text(alloc, call, copy, style, answer)
+        }
         Err(_) => Outcome::Refused(("String", "copy", "String")),
     }
 }
 
 /// Tries the literal of a text, rewritten.
-fn try_style<B: Text>(
+fn try_text<B: Text>(alloc: Global, call: Call, text: B, style: &Style, answer: &str) -> Outcome {
+    let parsed = Literal::parse(alloc, text);
+    let outcome = try_literal(alloc, call, &parsed, style, answer);
+    drop(parsed);
+    outcome
+}
+
+/// Tries a literal, rewritten.
+fn try_literal<B: Text>(
     alloc: Global,
     call: Call,
     parsed: &Result<Literal<B>, ParseError>,

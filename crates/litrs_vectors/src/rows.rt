@@ -58,6 +58,7 @@ fn try_call(alloc: Global, name: &str, text: &str, answer: &str) -> Outcome {
         "float" => values::try_float(alloc, text, answer),
         "Lines" => diagnostics::try_places(alloc, text, answer),
         "Diagnostic" => diagnostics::try_message(alloc, text, answer),
+        "Diagnostic::with_first" => diagnostics::try_first(alloc, text, answer),
         _ => agrees(ROW, false),
     }
 }

@@ -157,7 +157,10 @@ fn try_float_as<F: FastFloat + Drop>(alloc: Global, text: &str, bits: &[u8]) -> 
 where
     Hex: Form<F>,
 {
-    try_number::<F>(alloc, &Literal::parse(alloc, text), bits)
+    let parsed = Literal::parse(alloc, text);
+    let outcome = try_number::<F>(alloc, &parsed, bits);
+    drop(parsed);
+    outcome
 }
 
 /// Like [`try_float_as`], for a text that was parsed.
