@@ -1,24 +1,27 @@
 -- The places where a string is cut, by its only derivation.
-use Rattle.std.proofs.Common.{◌≡◌, ℕ, ◌+◌, ◌-◌, Bool, true, List, ◌++◌, length, refl, sym, ap, ◌∙◌, subst}
-use Rattle.std.specs.Str.{chars, IsUtf8}
+use Rattle.std.proofs.Common.{◌≡◌, ℕ, ◌+◌, ◌-◌, Bool, true, false, List, ◌++◌, None, length, drop, refl, sym, ap, ◌∙◌, subst, arith}
+use Rattle.std.specs.Prelude.{slice_range}
+use Rattle.std.specs.Str.{chars, IsUtf8, IsCharBoundary}
 use Rattle.std.proofs.lemmas.Str.{encodes-chars, IsUtf8-between}
 use Rattle.litrs_base.specs.Derivations.{IsOnlyDerivation}
 use Rattle.litrs_base.specs.Text.{begins_with}
 use Rattle.litrs_base.proofs.Begins.{begins_with-split}
 use Rattle.litrs_base.specs.declared.quotes.StringKind.{StringKind}
-use Rattle.litrs_base.specs.declared.quotes.StringKind.TheVariants.{CString as c_string_kind}
-use Rattle.litrs_base.specs.Quotes.{switches_of, quoted_front, raw_front}
+use Rattle.litrs_base.specs.declared.quotes.StringKind.TheVariants.{String as string_kind, CString as c_string_kind}
+use Rattle.litrs_base.specs.declared.quotes.Switches.{Switches}
+use Rattle.litrs_base.specs.Quotes.{string_switches, switches_of, quoted_front, raw_front}
 use Rattle.litrs_grammar.specs.Quoted.{IsQuoted}
 use Rattle.litrs_grammar.specs.Raw.{has_unicode, allows_nul}
 use Rattle.litrs_grammar.specs.Literal.{StringParts, quoted_parts, raw_parts, IsString}
 use Rattle.litrs_grammar.specs.Strings.{StringDerivation}
 use Rattle.litrs_grammar.proofs.Laws.Literal.{only_string}
-use Rattle.litrs_lex.proofs.StringFronts.{raw_begins, quoted_before, raw_after}
+use Rattle.litrs_lex.proofs.StringFronts.{raw_begins, quoted_boundary, quoted_before, raw_after}
+use Rattle.litrs_lex.specs.QuotedCut.{IsQuotedValue}
 use Rattle.litrs_lex.specs.RawCut.{IsRawCut, raw_parts_at}
 use Rattle.litrs.specs.declared.kept_value.BodyPlace.{BodyPlace}
 use Rattle.litrs.specs.declared.kept_value.KeptValue.{KeptValue}
 use Rattle.litrs.specs.declared.kept_value.KeptValue.TheVariants.{InText}
-use Rattle.litrs.specs.StringLiteral.{IsStringAt, IsCStringAt}
+use Rattle.litrs.specs.StringLiteral.{IsStringAt, IsCStringAt, IsPlainString}
 use Rattle.litrs.specs.ParsedStrings.{IsParsedQuoted, IsParsedRaw, IsParsedString}
 
 -- A quoted or a raw string is a string of its kind.
@@ -44,6 +47,32 @@ parsed_raw kind bs place start_suffix u begins parsed = record {
   };
   at = parsed.at;
 }
+
+-- a body without a backslash is its value
+plain_at : (w : Switches) (bs : List ℕ) (offset start_suffix : ℕ) → IsCharBoundary bs offset → IsQuotedValue w bs offset None start_suffix →
+    IsParsedQuoted w bs offset (InText (record { start = offset; end = start_suffix - 1; is_raw = false })) start_suffix
+plain_at w bs offset start_suffix at v =
+    let cut = v.is_cut in
+    let place = v.place in
+    let same : v.cut.start_suffix ≡ start_suffix = sym place in
+    let size = cut.start_suffix in record {
+      parts = cut.parts;
+      derives = cut.only.0;
+      at = record {
+        placed = record { in_order = omega arith; start = at; end = subst (λ (k : ℕ). IsCharBoundary bs (k - 1)) same cut.end_body };
+        suffix_place = subst (IsCharBoundary bs) same cut.boundary;
+        suffix = ap (λ (k : ℕ). chars (drop k bs)) place ∙ cut.suffix;
+        raw = refl;
+        owned = v.given ∙ cut.has_escape;
+        is_value = ap (λ (k : ℕ). slice_range bs offset (k - 1)) place ∙ cut.plain (sym v.given);
+      };
+    }
+
+pub plain_string : (bs : List ℕ) → IsUtf8 bs → IsPlainString bs →
+    IsParsedString string_kind bs (InText (record { start = 1; end = length bs - 1; is_raw = false })) (length bs)
+plain_string bs u is =
+    parsed_quoted string_kind bs _ (length bs) u is.quote
+    (plain_at string_switches bs 1 (length bs) (quoted_boundary string_kind bs u is.quote) is.body)
 
 -- the body of a raw string is its value
 pub parsed_raw_cut : (unicode allow_nul : Bool) (offset : ℕ) (bs : List ℕ) (hashes start_suffix : ℕ) → IsUtf8 bs →

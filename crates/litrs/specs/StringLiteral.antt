@@ -1,9 +1,13 @@
 -- String, byte string and C string literals.
-use Rattle.std.specs.Prelude.{◌≡◌, ◌≤◌, ℕ, Bool, true, false, List, slice_range, drop}
+use Rattle.std.specs.Prelude.{◌≡◌, ◌≤◌, ℕ, Bool, true, false, List, None, IsTrue, length, slice_range, drop}
 use Rattle.std.specs.Str.{chars, IsCharBoundary}
+use Rattle.litrs_base.specs.Quotes.{quoted_front, string_switches}
+use Rattle.litrs_base.specs.Text.{begins_with}
+use Rattle.litrs_base.specs.declared.quotes.StringKind.TheVariants.{String as string_kind}
 use Rattle.litrs_grammar.specs.Literal.{StringParts, string_suffix, string_value}
 use Rattle.litrs_grammar.specs.Allocation.{has_escapes}
 use Rattle.litrs_grammar.specs.Strings.{is_raw}
+use Rattle.litrs_lex.specs.QuotedCut.{IsQuotedValue}
 use Rattle.litrs.specs.declared.kept_value.BodyPlace.{BodyPlace}
 use Rattle.litrs.specs.declared.kept_value.KeptValue.{KeptValue}
 use Rattle.litrs.specs.declared.kept_value.KeptValue.TheVariants.{InText, Owned}
@@ -66,3 +70,8 @@ pub record IsCStringAt
   pub suffix_place : IsCharBoundary bytes start_suffix
   pub suffix : chars (drop start_suffix bytes) ≡ string_suffix d
   pub is_value : value ≡ string_value d
+
+-- The text is a quoted string without a backslash and without a suffix, for example `"a"`.
+pub record IsPlainString (bytes : List ℕ) : Type 0 where
+  pub quote : IsTrue (begins_with (quoted_front string_kind) bytes)
+  pub body : IsQuotedValue string_switches bytes 1 None (length bytes)

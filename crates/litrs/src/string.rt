@@ -11,10 +11,10 @@ ghost use Rattle.litrs_grammar.specs.Strings.{StringDerivation, is_raw};
 ghost use Rattle.litrs_grammar.specs.Refused.{IsRefusedOrOutOfMemory};
 ghost use Rattle.litrs_grammar.proofs.StringDerivations.{string_derivation-prop};
 ghost use Rattle.litrs_lex.specs.Front.{IsFront};
-ghost use Rattle.litrs.specs.StringLiteral.{StringLiteral, IsStringAt, kept_map, is_owned};
+ghost use Rattle.litrs.specs.StringLiteral.{StringLiteral, IsStringAt, IsPlainString, kept_map, is_owned};
 
 use crate::cut::read_string;
-use crate::kept_value::KeptValue;
+use crate::kept_value::{BodyPlace, KeptValue};
 use litrs_lex::{Buffer, Front, InString, ParseError, StringKind, Text};
 use std::alloc::{AllocError, Global};
 use std::fmt;
@@ -101,6 +101,28 @@ impl<B: Text> StringLit<B> {
             value,
             start_suffix,
         })
+    }
+
+    /// Creates the string with the text `raw`, a quoted body without a backslash and without a suffix,
+    /// such as `"foo"`. It is not parsed, and nothing is allocated.
+    #[inline(always)]
+    pub fn plain(raw: B) -> StringLit<B>
+        requires { IsPlainString (B.bytes raw) }
+        ensures buffer { result.buffer ≡ raw }
+        ensures raw { result.raw ≡ B.bytes raw }
+        ensures ok { IsOnlyDerivation (IsString string_kind (chars (B.bytes raw))) result.parts }
+    {
+        let start_suffix = raw.as_str().len();
+        let place = BodyPlace {
+            start: 1,
+            end: start_suffix - 1,
+            is_raw: false,
+        };
+        StringLit {
+            raw,
+            value: KeptValue::InText(place),
+            start_suffix,
+        }
     }
 
     /// Returns the value: `a`, LF and `b` for `"a\nb"`.

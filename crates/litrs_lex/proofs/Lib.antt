@@ -18,6 +18,7 @@ pub mod QuotedScan
 pub mod QuotedBytes
 pub mod QuotedCuts
 pub mod QuotedValues
+pub mod PlainBodies
 pub mod EscapeEnds
 pub mod BodyStops
 pub mod Readings

@@ -4,7 +4,7 @@ use Rattle.std.proofs.Common.{◌≡◌, ℕ, suc, ◌+◌, ◌<◌, ◌≤◌, 
 use Rattle.std.specs.Prelude.{encode_utf8, encode_utf8_all}
 use Rattle.std.specs.List.{prefix_len, list_all, take_while}
 use Rattle.std.specs.Str.{chars, IsUtf8, IsCharBoundary}
-use Rattle.std.proofs.lemmas.Bool.{cases_lt}
+use Rattle.std.proofs.lemmas.Bool.{cases_lt, and_parts, both_ways}
 use Rattle.std.proofs.lemmas.List.{append-nil, take-append-drop, drop-drop, length-drop}
 use Rattle.std.proofs.lemmas.List.Sums.{take_while-cons}
 use Rattle.litrs_lex.proofs.CharCuts.{cut_at}
@@ -125,6 +125,30 @@ char_run p h alike bs u =
       size = n;
       stops = first_passes-rest p bs;
     }
+
+-- runs of what passes end where something else follows
+pub same_run : (p : ℕ → Bool) (a b x y : List ℕ) → list_all p a ≡ true → list_all p b ≡ true → first_passes p x ≡ false → first_passes p y ≡ false →
+    a ++ x ≡ b ++ y → (a ≡ b) × (x ≡ y)
+same_run p [] [] x y h g e f same = (refl, same)
+same_run p [] (d ∷ b) x y h g e f same =
+    let passes = and_parts (p d) _ g in
+    absurd (both_ways (first_passes p (d ∷ (b ++ y))) (subst (λ l. first_passes p l ≡ false) same e) passes.0)
+same_run p (c ∷ a) [] x y h g e f same =
+    let passes = and_parts (p c) _ h in
+    absurd (both_ways (first_passes p (c ∷ (a ++ x))) (subst (λ l. first_passes p l ≡ false) (sym same) f) passes.0)
+same_run p (c ∷ a) (d ∷ b) x y h g e f same =
+    let left = and_parts (p c) (list_all p a) h in
+    let right = and_parts (p d) (list_all p b) g in
+    let head : c ≡ d = cc in
+    let tail : a ++ x ≡ b ++ y = cc in
+    let rec = same_run p a b x y left.1 right.1 e f tail in
+    (cc, rec.1)
+
+-- so there is one run from a place on
+pub same_place : (w : Switches) (bytes : List ℕ) (from end place : ℕ) → IsPlainRun w bytes from end → IsPlainRun w bytes from place → end ≡ place
+same_place w bytes from end place r s =
+    let same = same_run (is_plain w) r.run s.run _ _ r.plain s.plain r.stops s.stops (sym r.split ∙ s.split) in
+    sym r.size ∙ ap (λ (l : List ℕ). from + byte_len l) same.0 ∙ s.size
 
 -- the bytes from a place on up to the first that is not a plain character are a run
 pub plain_run : (w : Switches) (bytes : List ℕ) (from end : ℕ) → IsUtf8 bytes → IsCharBoundary bytes from → end ≡ from + prefix_len (is_plain w) (drop from bytes) →

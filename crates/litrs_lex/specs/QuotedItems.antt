@@ -27,6 +27,11 @@ pub record IsPlainRun (w : Switches) (bytes : List ℕ) (from end : ℕ) : Type 
   pub boundary : IsCharBoundary bytes end
   pub stops : IsFalse (first_passes (is_plain w) (chars (drop end bytes)))
 
+-- The characters of a body from `offset` up to `place` are plain, and the closing quote follows.
+pub record IsPlainBody (w : Switches) (bytes : List ℕ) (offset place : ℕ) : Type 0 where
+  pub run : IsPlainRun w bytes offset place
+  pub quote : IsTrue (first_passes (λ c. c == double_quote) (chars (drop place bytes)))
+
 -- The value of an item with a backslash, in bytes. That of a continuation is empty.
 abbrev pub item_bytes : Option Unescape → List ℕ
 item_bytes None = []

@@ -1,8 +1,9 @@
 //! Quoted strings, byte strings and C strings.
-ghost use Rattle.std.specs.Prelude.{◌≡◌, ◌≢◌, ⊤, [], None, codes, drop, IfOk, IfErr, IsTrue, IsFalse};
+ghost use Rattle.std.specs.Prelude.{◌≡◌, ◌≢◌, ⊤, ℕ, [], None, codes, drop, IfOk, IfErr, IfSome, IfNone, IsTrue, IsFalse};
 ghost use Rattle.std.specs.Str.{chars, IsCharBoundary};
 ghost use Rattle.litrs_grammar.specs.Quoted.{item_refusal};
 ghost use Rattle.litrs_lex.specs.QuotedCut.{IsQuotedCut, IsQuotedRefused};
+ghost use Rattle.litrs_lex.specs.QuotedItems.{IsPlainBody};
 ghost use Rattle.litrs_lex.specs.Reading.{IsReading, IsReadBody, IsBodyRefused, IsItemsEnd};
 ghost use Rattle.litrs_lex.specs.Unescaped.{switches};
 
@@ -98,6 +99,26 @@ pub fn items_end<A: Allows>(input: &str, offset: usize, allowed: A) -> usize
         Reached::Quote(place) => place,
         Reached::Full(_) => unreachable!(),
         Reached::Refused(place, _) => place,
+    }
+}
+
+/// Returns the place of the closing quote of a quoted body that starts at `offset`, if all its
+/// characters are plain. For `"ab" + c` and 1 that is 3. Returns `None` if the body is not closed or
+/// has another character: a backslash, a CR or one that `allowed` excludes.
+///
+/// `offset` is that of [`cut_quoted`].
+#[inline(always)]
+pub fn plain_body_end<A: Allows>(input: &str, offset: usize, allowed: A) -> Option<usize>
+    requires { IsCharBoundary input.now offset }
+    ensures some { IfSome result (IsPlainBody (A.allowed allowed) input.now offset) }
+    ensures none { IfNone result
+        ((place : ℕ) → IsPlainBody (A.allowed allowed) input.now offset place → ⊥) }
+{
+    let place = first_plain_end(input, offset, allowed);
+    if begins_with_byte(input[place..].as_bytes(), b'"') {
+        Some(place)
+    } else {
+        None
     }
 }
 

@@ -32,6 +32,7 @@ pub mod Judged
 pub mod Extents
 pub mod NumberExtents
 pub mod PlainLiterals
+pub mod PlainStrings
 pub mod Unclosed
 -- examples
 pub mod Examples

@@ -46,6 +46,7 @@ pub use malformed::after_opened;
 pub use may_change::{is_open_front, prefix_may_change};
 pub use name::{after_name, after_run, begins_name};
 pub use opening::opens;
+use plain::plain_string;
 use std::alloc::Global;
 use std::ops::Range;
 pub use until::parse_until;
@@ -133,6 +134,9 @@ pub fn parse_prefix(alloc: Global, text: &str) -> Result<Option<Prefix<'_>>, Mal
 {
     if !opens(text) {
         return Ok(None);
+    }
+    if let Some(found) = plain_string(text) {
+        return Ok(Some(found));
     }
     let len = front_len(text);
     let (front, rest) = text.split_at(len);

@@ -9,21 +9,25 @@ ghost use Rattle.litrs_base.specs.Quotes.{char_front, quoted_front, raw_front, s
 ghost use Rattle.litrs_grammar.specs.CharByte.{allows_char, is_char_item, plain_char};
 ghost use Rattle.litrs_grammar.specs.Float.{is_period};
 ghost use Rattle.litrs_grammar.specs.Integer.{is_e};
+ghost use Rattle.litrs.specs.LiteralDerivation.{literal_raw, derivation};
 ghost use Rattle.litrs_lex.specs.RawCut.{IsRawOpening};
 ghost use Rattle.litrs_lex.specs.Reading.{IsItemsEnd};
 ghost use Rattle.litrs_prefix.specs.Ends.{after_digits, is_other_letter, IsEndOf, IsItemBefore, HasLiteralBefore, IsOnlyRest};
 ghost use Rattle.litrs_prefix.specs.Extent.{IsLiteralLen, IsMalformedLen};
 ghost use Rattle.litrs_prefix.specs.Meant.{after_opened};
 ghost use Rattle.litrs_prefix.specs.Opens.{opens};
+ghost use Rattle.litrs_prefix.specs.Prefix.{HasPrefix};
 
+use crate::Prefix;
 use crate::extent::judged_extent;
 use crate::follow::{begins_with_period, keeps_period};
 use crate::malformed::after_digits;
 use crate::name::{is_empty, starts_beyond_ascii};
 use crate::opening::begins_with_quote;
 use crate::piece::{integer_follows, is_e};
+use litrs::{Literal, StringLit};
 use litrs_base::{CharKind, begins_with_digit, split_first_char};
-use litrs_lex::quoted::items_end;
+use litrs_lex::quoted::{items_end, plain_body_end};
 use litrs_lex::raw::{body_end, open_raw};
 use litrs_lex::{InByteString, InCString, InString, Run, StringKind, run_end, unescape_with};
 
@@ -124,6 +128,33 @@ pub fn quoted_extent<'a>(text: &'a str, body: &'a str, kind: StringKind) -> Resu
         },
         Some(_) => judged_extent(text),
         None => Err(text.len()),
+    }
+}
+
+/// Parses the string at the front of `text`, if its body has neither a backslash nor a CR, and if it
+/// has no suffix before an ASCII character that no name has, or the end of the text. Otherwise
+/// returns `None`.
+#[inline(always)]
+pub fn plain_string(text: &str) -> Option<Prefix<'_>>
+    ensures spells { IfSome result (λ prefix.
+        literal_raw prefix.literal ++ prefix.rest.now ≡ text.now) }
+    ensures found { IfSome result (λ prefix.
+        HasPrefix (chars text.now) (derivation prefix.literal) (chars prefix.rest.now)) }
+{
+    if !begins_with_quote(text) {
+        return None;
+    }
+    match plain_body_end(text, 1, InString) {
+        Some(quote) => {
+            let (front, rest) = text.split_at(quote + 1);
+            if ends_name(rest) {
+                let literal = Literal::String(StringLit::plain(front));
+                Some(Prefix { literal, rest })
+            } else {
+                None
+            }
+        }
+        None => None,
     }
 }
 
