@@ -88,13 +88,12 @@ pub fn unescape_with(input: &str, allowed: Switches) -> Result<(Unescape, usize)
     }
 }
 
+/// The value of an escape and its length in bytes, or the error.
+type Parsed = Result<(Unescape, usize), ParseError>;
+
 /// Parses the escape of `input`, which starts with a backslash and `letter`, neither `x` nor `u`.
 #[inline(always)]
-fn unescape_simple(
-    input: &str,
-    letter: u8,
-    allowed: Switches,
-) -> Result<(Unescape, usize), ParseError>
+fn unescape_simple(input: &str, letter: u8, allowed: Switches) -> Parsed
     requires begins { IsTrue (begins_with (backslash ∷ letter ∷ []) input.now) }
     requires no_hex { letter ≢ letter_x }
     requires no_unicode { letter ≢ letter_u }
@@ -110,24 +109,25 @@ fn unescape_simple(
     Ok((Unescape::Byte(value), 2))
 }
 
+/// The value of each letter after a backslash, or `-` if they are not an escape.
+static SIMPLE_VALUES: [u8; 256] = *b"\
+    ----------------------------------\"----'--------\0---------------\
+    ----------------------------\\-----------------\n---\r-\t-----------\
+    ----------------------------------------------------------------\
+    ----------------------------------------------------------------";
+
 /// Returns the value of a backslash and `letter`, or `None` if they are not an escape.
 #[inline(always)]
-fn simple_value(letter: u8) -> Option<u8>
+pub(crate) fn simple_value(letter: u8) -> Option<u8>
     ensures { SomeIff result (IsTrue (is_simple letter)) (simple_value letter) }
 {
-    match letter {
-        b'n' => Some(b'\n'),
-        b'r' => Some(b'\r'),
-        b't' => Some(b'\t'),
-        b'0' => Some(0),
-        b'\\' | b'"' | b'\'' => Some(letter),
-        _ => None,
-    }
+    let value = SIMPLE_VALUES[letter as usize];
+    if value != b'-' { Some(value) } else { None }
 }
 
 /// Parses the escape of `input`, which starts with `\x`.
 #[inline(always)]
-fn unescape_hex(input: &str, allowed: Switches) -> Result<(Unescape, usize), ParseError>
+fn unescape_hex(input: &str, allowed: Switches) -> Parsed
     requires { IsTrue (begins_with (codes "\\x") input.now) }
     ensures ok { IfOk result (λ read. IsUnescaped allowed input.now read.0 read.1) }
     ensures refused { IfErr result (HasEscapeRefusal allowed (chars input.now)) }
@@ -159,7 +159,7 @@ fn allows_byte(allowed: Switches, value: u8) -> bool
 
 /// Returns `true` if an escape may have the value `value`.
 #[inline(always)]
-fn allows_value(allowed: Switches, value: u32) -> bool
+pub(crate) fn allows_value(allowed: Switches, value: u32) -> bool
     ensures { result ≡ nul_is_allowed allowed.allow_nul value }
 {
     allowed.allow_nul || value != 0
@@ -178,7 +178,7 @@ fn pair_value(high: u8, low: u8) -> Option<u8>
 
 /// Parses the escape of `input`, which starts with `\u`. Such escapes are allowed.
 #[inline(always)]
-fn unescape_unicode(input: &str, allowed: Switches) -> Result<(Unescape, usize), ParseError>
+fn unescape_unicode(input: &str, allowed: Switches) -> Parsed
     requires begins { IsTrue (begins_with (codes "\\u") input.now) }
     requires unicode { IsTrue allowed.unicode }
     ensures ok { IfOk result (λ read. IsUnescaped allowed input.now read.0 read.1) }
@@ -250,11 +250,7 @@ pub fn hex_digits(bytes: &[u8]) -> HexDigits
 
 /// Parses the escape of `input`, which starts with `\u{`, `digits` and `}`.
 #[inline(always)]
-fn unescape_digits(
-    input: &str,
-    digits: HexDigits,
-    allowed: Switches,
-) -> Result<(Unescape, usize), ParseError>
+fn unescape_digits(input: &str, digits: HexDigits, allowed: Switches) -> Parsed
     requires begins { IsTrue (begins_with (codes "\\u{") input.now) }
     requires digits { IsHexDigits (drop 3 input.now) digits }
     requires closed { IsTrue (first_passes is_ascii_hexdigit (drop 3 input.now)

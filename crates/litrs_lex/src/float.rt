@@ -96,20 +96,16 @@ fn cut_refusal(cut: &FloatCut, input: &str) -> Option<(Option<Range<usize>>, Par
     ensures { option_map (λ r. refusal r.0 r.1) result
         ≡ float_cut_refusal (float_cut (chars input.now)) }
 {
-    let FloatCut {
-        end_integer,
-        end_fraction,
-        end_number,
-    } = *cut;
-    if has_no_exponent_digit(&input.as_bytes()[end_fraction..end_number]) {
-        let span = end_fraction..end_number;
+    let end_number = cut.end_number;
+    if has_no_exponent_digit(&input.as_bytes()[cut.end_fraction..end_number]) {
+        let span = cut.end_fraction..end_number;
         return Some((Some(span), ParseErrorKind::NoExponentDigits));
     }
     let (_, suffix) = input.split_at(end_number);
     if let Err(kind) = check_suffix(suffix) {
         return Some((Some(end_number..input.len()), kind));
     }
-    if end_integer == end_number {
+    if cut.end_integer == end_number {
         return Some((None, ParseErrorKind::UnexpectedIntegerLit));
     }
     None

@@ -91,11 +91,7 @@ fn cut_refusal(cut: &IntegerCut, input: &str) -> Option<(Range<usize>, ParseErro
     ensures { option_map (λ r. refusal (Some r.0) r.1) result
         ≡ integer_cut_refusal (integer_cut (chars input.now)) }
 {
-    let IntegerCut {
-        start_main,
-        end_main,
-        ..
-    } = *cut;
+    let end_main = cut.end_main;
     let (number, suffix) = input.split_at(end_main);
     // Tested first, because no suffix starts with a digit.
     if begins_with_digit(suffix) {
@@ -108,10 +104,10 @@ fn cut_refusal(cut: &IntegerCut, input: &str) -> Option<(Range<usize>, ParseErro
         let span = end_main..end_main + 1;
         return Some((span, ParseErrorKind::IntegerSuffixStartingWithE));
     }
-    if is_more_than_underscores(&number.as_bytes()[start_main..]) {
+    if is_more_than_underscores(&number.as_bytes()[cut.start_main..]) {
         None
     } else {
-        Some((start_main..end_main, ParseErrorKind::NoDigits))
+        Some((cut.start_main..end_main, ParseErrorKind::NoDigits))
     }
 }
 

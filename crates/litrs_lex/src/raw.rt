@@ -13,6 +13,9 @@ use crate::{Special, Switches, check_suffix, next_special};
 use litrs_base::{ParseError, ParseErrorKind};
 use std::ops::Range;
 
+/// The span and the kind of an error.
+type Refusal = (Option<Range<usize>>, ParseErrorKind);
+
 /// Cuts the rest of a raw literal, from after its `r` on, into hashes, body and suffix.
 ///
 /// The `r` ends at `offset`, a character boundary of `input`. Returns the number of hashes, at most
@@ -56,11 +59,7 @@ pub fn scan_raw_string(
 
 /// Like [`scan_raw_string`], with the kind and the span of an error alone.
 #[inline(always)]
-fn cut_raw(
-    input: &str,
-    offset: usize,
-    allowed: Switches,
-) -> Result<(u8, usize), (Option<Range<usize>>, ParseErrorKind)>
+fn cut_raw(input: &str, offset: usize, allowed: Switches) -> Result<(u8, usize), Refusal>
     requires { IsCharBoundary input.now offset }
     ensures ok { IfOk result (IsRawCut allowed.unicode allowed.allow_nul offset input.now) }
     ensures refused { IfErr result (λ r.
@@ -114,12 +113,7 @@ pub fn open_raw(
 /// Returns where the suffix begins after a body from `start` on and its closing with `hashes`
 /// hashes, or the kind and the span of the error.
 #[inline(always)]
-fn cut_body(
-    input: &str,
-    start: usize,
-    hashes: usize,
-    allowed: Switches,
-) -> Result<usize, (Option<Range<usize>>, ParseErrorKind)>
+fn cut_body(input: &str, start: usize, hashes: usize, allowed: Switches) -> Result<usize, Refusal>
     requires { IsCharBoundary input.now start }
     ensures ok { IfOk result (IsBodyCut allowed.unicode allowed.allow_nul hashes start input.now) }
     ensures refused { IfErr result (λ r.

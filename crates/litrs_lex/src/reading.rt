@@ -71,11 +71,8 @@ pub(crate) fn read_items<S: Sink, A: Allows>(
             Ok(Stop::Quote) => return Reached::Quote(place),
             Ok(Stop::Item(value, len)) => {
                 if !sink.push(value) {
-                    return Reached::Full(Reading {
-                        at: place,
-                        place,
-                        mask,
-                    });
+                    at = place;
+                    return Reached::Full(Reading { at, place, mask });
                 }
                 at = place + len;
                 (place, mask) = plain_end(input, at, switches, mask);

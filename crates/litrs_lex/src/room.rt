@@ -1,5 +1,6 @@
 //! A value on the stack.
 ghost use Rattle.std.specs.Prelude.{◌≡◌, ◌≤◌, ◌<◌, ◌+◌, ◌-◌, ◌++◌, [], List, ℕ, true, length, take, drop, IsTrue, IsFalse};
+ghost use Rattle.litrs_grammar.specs.Escape.{value_bytes};
 
 use crate::sink::Sink;
 use litrs_base::Unescape;
@@ -96,6 +97,24 @@ impl<const N: usize> Room<N> {
             self.push_bytes(&text[start..end])
         }
     }
+
+    /// Appends the value of an escape. Returns `false` if it does not fit.
+    #[inline(always)]
+    pub(crate) fn push_value(&mut self, value: Unescape) -> bool
+        ensures taken { IsTrue result → self.new ≡ self.old ++ value_bytes value }
+        ensures full { IsFalse result →
+            (self.new ≡ self.old) × (N < length self.old + length (value_bytes value)) }
+    {
+        match value {
+            Unescape::Byte(byte) => self.push_bytes(&[byte]),
+            Unescape::Unicode(c) if c.is_ascii() => self.push_bytes(&[c as u8]),
+            Unescape::Unicode(c) => {
+                let mut buffer = [0; 4];
+                let text = c.encode_utf8(&mut buffer);
+                self.push_bytes(text.as_bytes())
+            }
+        }
+    }
 }
 
 /// Copies `bytes` over those of `room` from `place` on.
@@ -123,12 +142,7 @@ impl<const N: usize> Sink for Room<N> {
     fn push(&mut self, value: Option<Unescape>) -> bool {
         match value {
             None => true,
-            Some(Unescape::Byte(byte)) => self.push_bytes(&[byte]),
-            Some(Unescape::Unicode(c)) => {
-                let mut buffer = [0; 4];
-                let text = c.encode_utf8(&mut buffer);
-                self.push_bytes(text.as_bytes())
-            }
+            Some(value) => self.push_value(value),
         }
     }
 }

@@ -1,6 +1,7 @@
 //! The end of a run.
-ghost use Rattle.std.specs.Prelude.{◌≡◌, ◌≤◌, ◌<◌, ℕ, not, eqb, bit_and, get_or, length};
+ghost use Rattle.std.specs.Prelude.{◌≡◌, ◌≤◌, ◌<◌, ◌+◌, ℕ, not, eqb, bit_and, get_or, length, drop, IsTrue};
 ghost use Rattle.std.specs.List.{prefix_len};
+ghost use Rattle.litrs_base.specs.Characters.{is_blank};
 ghost use Rattle.litrs_lex.specs.Run.{is_in_run};
 ghost use Rattle.litrs_lex.specs.declared.run.TheConstants.{CLASSES};
 
@@ -22,22 +23,16 @@ pub enum Run {
 /// The classes of each byte, one bit each: a digit of base 2, 8, 10 or 16, an ASCII letter, an
 /// underscore, a blank, `#`.
 static CLASSES: [u8; 256] = *b"\
-    \x00\x00\x00\x00\x00\x00\x00\x00\x00\x40\x40\x00\x00\x00\x00\x00\
-    \x00\x00\x00\x00\x00\x00\x00\x00\x00\x00\x00\x00\x00\x00\x00\x00\
-    \x40\x00\x00\x80\x00\x00\x00\x00\x00\x00\x00\x00\x00\x00\x00\x00\
-    \x0f\x0f\x0e\x0e\x0e\x0e\x0e\x0e\x0c\x0c\x00\x00\x00\x00\x00\x00\
-    \x00\x18\x18\x18\x18\x18\x18\x10\x10\x10\x10\x10\x10\x10\x10\x10\
-    \x10\x10\x10\x10\x10\x10\x10\x10\x10\x10\x10\x00\x00\x00\x00\x20\
-    \x00\x18\x18\x18\x18\x18\x18\x10\x10\x10\x10\x10\x10\x10\x10\x10\
-    \x10\x10\x10\x10\x10\x10\x10\x10\x10\x10\x10\x00\x00\x00\x00\x00\
-    \x00\x00\x00\x00\x00\x00\x00\x00\x00\x00\x00\x00\x00\x00\x00\x00\
-    \x00\x00\x00\x00\x00\x00\x00\x00\x00\x00\x00\x00\x00\x00\x00\x00\
-    \x00\x00\x00\x00\x00\x00\x00\x00\x00\x00\x00\x00\x00\x00\x00\x00\
-    \x00\x00\x00\x00\x00\x00\x00\x00\x00\x00\x00\x00\x00\x00\x00\x00\
-    \x00\x00\x00\x00\x00\x00\x00\x00\x00\x00\x00\x00\x00\x00\x00\x00\
-    \x00\x00\x00\x00\x00\x00\x00\x00\x00\x00\x00\x00\x00\x00\x00\x00\
-    \x00\x00\x00\x00\x00\x00\x00\x00\x00\x00\x00\x00\x00\x00\x00\x00\
-    \x00\x00\x00\x00\x00\x00\x00\x00\x00\x00\x00\x00\x00\x00\x00\x00";
+    \0\0\0\0\0\0\0\0\0\x40\x40\0\0\0\0\0\0\0\0\0\0\0\0\0\0\0\0\0\0\0\0\0\
+    \x40\0\0\x80\0\0\0\0\0\0\0\0\0\0\0\0\x0f\x0f\x0e\x0e\x0e\x0e\x0e\x0e\x0c\x0c\0\0\0\0\0\0\
+    \0\x18\x18\x18\x18\x18\x18\x10\x10\x10\x10\x10\x10\x10\x10\x10\
+    \x10\x10\x10\x10\x10\x10\x10\x10\x10\x10\x10\0\0\0\0\x20\
+    \0\x18\x18\x18\x18\x18\x18\x10\x10\x10\x10\x10\x10\x10\x10\x10\
+    \x10\x10\x10\x10\x10\x10\x10\x10\x10\x10\x10\0\0\0\0\0\
+    \0\0\0\0\0\0\0\0\0\0\0\0\0\0\0\0\0\0\0\0\0\0\0\0\0\0\0\0\0\0\0\0\
+    \0\0\0\0\0\0\0\0\0\0\0\0\0\0\0\0\0\0\0\0\0\0\0\0\0\0\0\0\0\0\0\0\
+    \0\0\0\0\0\0\0\0\0\0\0\0\0\0\0\0\0\0\0\0\0\0\0\0\0\0\0\0\0\0\0\0\
+    \0\0\0\0\0\0\0\0\0\0\0\0\0\0\0\0\0\0\0\0\0\0\0\0\0\0\0\0\0\0\0\0";
 
 /// Returns bits of [`CLASSES`]: a byte has one of them if and only if it is in the run.
 #[inline(always)]
@@ -81,4 +76,27 @@ pub fn run_end(bytes: &[u8], run: Run) -> usize
     ensures within { result ≤ length bytes.now }
 {
     bytes.iter().take_while(|b| is_in_run(**b, run)).count()
+}
+
+/// Returns the number of blanks at the front of `bytes`. Spaces are compared by four.
+#[inline(always)]
+pub(crate) fn blanks_len(bytes: &[u8]) -> usize
+    ensures run { result ≡ prefix_len is_blank bytes.now }
+    ensures within { result ≤ length bytes.now }
+{
+    let mut len = 0;
+    while bytes.len() - len >= 4 && are_spaces(bytes, len) {
+        len += 4;
+    }
+    len + run_end(&bytes[len..], Run::Blanks)
+}
+
+/// Returns `true` if the four bytes from `at` on are spaces.
+#[inline(always)]
+fn are_spaces(bytes: &[u8], at: usize) -> bool
+    requires { at + 4 ≤ length bytes.now }
+    ensures { IsTrue result → prefix_len is_blank (drop at bytes.now)
+        ≡ 4 + prefix_len is_blank (drop (at + 4) bytes.now) }
+{
+    u32::from_le_bytes([bytes[at], bytes[at + 1], bytes[at + 2], bytes[at + 3]]) == 0x2020_2020
 }

@@ -143,10 +143,8 @@ fn mask_all<const N: usize>(bytes: &[u8], from: usize, what: Special) -> (usize,
     let after = last >> (N + N - end);
     let bits = (first + (after << N)) >> from;
     let start = from;
-    (
-        lowest_bit_place(bits, start, end),
-        Mask { start, end, bits },
-    )
+    let mask = Mask { start, end, bits };
+    (lowest_bit_place(bits, start, end), mask)
 }
 
 /// Like [`load_mask`], for at least 32 bytes, by 32 bytes a step. The last load is that of the last
@@ -164,19 +162,15 @@ fn mask_by_lanes(bytes: &[u8], from: usize, what: Special) -> (usize, Mask)
         let bits = special_mask::<LOAD>(bytes, start, what);
         if bits != 0 {
             let end = start + LOAD;
-            return (
-                start + bits.trailing_zeros() as usize,
-                Mask { start, end, bits },
-            );
+            let mask = Mask { start, end, bits };
+            return (start + bits.trailing_zeros() as usize, mask);
         }
         start += LOAD;
     }
     let bits = special_mask::<LOAD>(bytes, len - LOAD, what) >> (LOAD - (len - start));
     let end = len;
-    (
-        lowest_bit_place(bits, start, len),
-        Mask { start, end, bits },
-    )
+    let mask = Mask { start, end, bits };
+    (lowest_bit_place(bits, start, len), mask)
 }
 
 #[inline(always)]

@@ -1,20 +1,23 @@
 //! The item or quote after the plain characters of a body.
-ghost use Rattle.std.specs.Prelude.{◌≡◌, ◌≤◌, ◌==◌, length, IfOk, IfErr, IsTrue, IsFalse};
+ghost use Rattle.std.specs.Prelude.{◌≡◌, ◌≤◌, ◌==◌, length, Some, IfSome, IfOk, IfErr, IsTrue, IsFalse};
 ghost use Rattle.std.specs.List.{prefix_len};
 ghost use Rattle.std.specs.Str.{chars, IsCharBoundary};
 ghost use Rattle.litrs_base.specs.Characters.{line_feed, double_quote, backslash, is_blank};
 ghost use Rattle.litrs_base.specs.Text.{first_passes};
+ghost use Rattle.litrs_base.specs.declared.escape.Unescape.TheVariants.{Byte};
 ghost use Rattle.litrs_base.specs.declared.quotes.Switches.{Switches};
 ghost use Rattle.litrs_grammar.specs.Quoted.{is_plain, without_last};
-ghost use Rattle.litrs_lex.specs.QuotedItems.{IsPlainRun, stops};
+ghost use Rattle.litrs_lex.specs.QuotedItems.{IsPlainRun, IsItemAt, stops};
 ghost use Rattle.litrs_lex.specs.Reading.{IsRestRefused, StandsAt};
 ghost use Rattle.litrs_lex.specs.Mask.{IsMaskOf};
 
 use crate::allowed::Allows;
+use crate::escape::{allows_value, simple_value};
 use crate::parse::begins_with_byte;
 use crate::raw::char_refusal;
+use crate::run::blanks_len;
 use crate::search::{Mask, next_special_masked};
-use crate::{Run, Special, Switches, next_special, run_end, unescape_with};
+use crate::{Special, Switches, next_special, unescape_with};
 use litrs_base::{ParseError, ParseErrorKind, Unescape};
 
 /// The closing quote, or an item with a backslash.
@@ -44,18 +47,37 @@ pub(crate) fn stop_at(rest: &str, allowed: Switches) -> Result<Stop, ParseError>
     match *first {
         b'"' => Ok(Stop::Quote),
         b'\\' if begins_with_byte(after, b'\n') => {
-            let len = 2 + run_end(&after[1..], Run::Blanks);
+            let len = 2 + blanks_len(&after[1..]);
             if len == rest.len() {
                 Err(ParseError::new(None, ParseErrorKind::UnterminatedString))
             } else {
                 Ok(Stop::Item(None, len))
             }
         }
-        b'\\' => match unescape_with(without_last(rest), allowed) {
-            Ok((value, len)) => Ok(Stop::Item(Some(value), len)),
-            Err(e) => Err(e),
+        b'\\' => match simple_item(rest, allowed) {
+            Some(value) => Ok(Stop::Item(Some(Unescape::Byte(value)), 2)),
+            None => match unescape_with(without_last(rest), allowed) {
+                Ok((value, len)) => Ok(Stop::Item(Some(value), len)),
+                Err(e) => Err(e),
+            },
         },
         _ => Err(stop_refusal(rest)),
+    }
+}
+
+/// Returns the value of the escape of one letter at the front of `rest`, which starts with a
+/// backslash. Returns `None` if another escape or an error is there, or the text ends with it.
+#[inline(always)]
+fn simple_item(rest: &str, allowed: Switches) -> Option<u8>
+    requires { IsTrue (first_passes (λ c. c == backslash) rest.now) }
+    ensures { IfSome result (λ value. IsItemAt allowed rest.now 2 (Some (Byte value))) }
+{
+    match rest.as_bytes() {
+        [_, letter, _, ..] => match simple_value(*letter) {
+            Some(value) if allows_value(allowed, u32::from(value)) => Some(value),
+            _ => None,
+        },
+        _ => None,
     }
 }
 

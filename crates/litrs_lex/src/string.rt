@@ -26,9 +26,11 @@ use std::alloc::Global;
 /// The size in bytes of the first buffer on the stack.
 const SHORT: usize = 128;
 
-/// The size in bytes of the second buffer, for values that do not fit the first. A longer value is
-/// read twice.
+/// The size in bytes of the second buffer, for values that do not fit the first.
 const LONG: usize = 4096;
+
+/// The size in bytes of the third buffer. A longer value is read twice.
+const LONGEST: usize = 4 * LONG;
 
 /// Unescapes a quoted literal whose body starts at `offset`. Returns the value, or `None` if the
 /// body has no backslash and equals the value, and the place of the suffix, in bytes. For
@@ -190,6 +192,34 @@ fn read_longer<C: EscapeContainer, A: Allows>(
     ensures { IsReadAsValue C.contents (A.allowed allowed) input.now offset result }
 {
     let mut room = Room::<LONG>::new();
+    if !room.push_bytes(value) {
+        return read_longest(alloc, input, offset, from, allowed, value);
+    }
+    match read_items(input, offset, from, allowed, &mut room) {
+        Reached::Quote(place) => finished(alloc, input, offset, place, allowed, room.as_bytes()),
+        Reached::Full(state) => read_longest(alloc, input, offset, state, allowed, room.as_bytes()),
+        Reached::Refused(_, e) => Err(e),
+    }
+}
+
+/// Like [`read_longer`], with the largest room.
+///
+/// Not inlined, so that shorter values do not need a stack of its size.
+#[inline(never)]
+fn read_longest<C: EscapeContainer, A: Allows>(
+    alloc: Global,
+    input: &str,
+    offset: usize,
+    from: Reading,
+    allowed: A,
+    value: &[u8],
+) -> Result<(Option<C>, usize), ParseError>
+    requires at { IsCharBoundary input.now offset }
+    requires fits { IsTrue (not (A.allowed allowed).byte_escapes || C.TAKES_BYTES) }
+    requires from { IsReading (A.allowed allowed) input.now offset (λ v. value.now ≡ v) from }
+    ensures { IsReadAsValue C.contents (A.allowed allowed) input.now offset result }
+{
+    let mut room = Room::<LONGEST>::new();
     if !room.push_bytes(value) {
         return read_twice(alloc, input, offset, from, allowed, value);
     }

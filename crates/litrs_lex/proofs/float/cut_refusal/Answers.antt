@@ -38,8 +38,8 @@ returns-in-Err c =
     let kind : c.in-Err.kind ≡ suffix_refusal (chars (drop cut.end_number bs)) = c.in-Err.ensures.err ∙ sym (ap suffix_refusal back) in
     ap (λ k. Some (spanning cut.end_number (length bs) k)) kind ∙ sym (refusal_of_cut cut bs c.utf8.input c.requires.parts ∙ row_suffix _ _ _ _ _ _ _ _ _ wrong digit suffix)
 
-pub returns-then-end_integer-end_number : goal.returns-then-end_integer-end_number
-returns-then-end_integer-end_number c =
+pub returns-then-cut-end_number : goal.returns-then-cut-end_number
+returns-then-cut-end_number c =
     let bs = c.args.input.now in
     let cut = c.args.cut.now in
     let wrong = c.requires.fraction in
@@ -49,7 +49,7 @@ returns-then-end_integer-end_number c =
     ∙ (sym c.has_no_exponent_digit.ensures ∙ c.if-has_no_exponent_digit.false) in
     let back : chars (drop cut.end_number bs) ≡ chars c.split_at.result.1.now = ap chars (sym c.split_at.ensures.back) in
     let suffix : is_suffix (chars (drop cut.end_number bs)) ≡ true = ap is_suffix back ∙ sym c.in_default.ensures.ok in
-    let same : eqb cut.end_integer cut.end_number ≡ true = eq-eqb cut.end_integer cut.end_number (omega (arith, c.if-end_integer-end_number.true)) in
+    let same : eqb cut.end_integer cut.end_number ≡ true = eq-eqb cut.end_integer cut.end_number (omega (arith, c.if-cut-end_number.true)) in
     sym (refusal_of_cut cut bs c.utf8.input c.requires.parts ∙ row_integer _ _ _ _ _ _ _ _ _ wrong digit suffix same)
 
 pub returns : goal.returns
@@ -63,5 +63,5 @@ returns c =
     ∙ (sym c.has_no_exponent_digit.ensures ∙ c.if-has_no_exponent_digit.false) in
     let back : chars (drop cut.end_number bs) ≡ chars c.split_at.result.1.now = ap chars (sym c.split_at.ensures.back) in
     let suffix : is_suffix (chars (drop cut.end_number bs)) ≡ true = ap is_suffix back ∙ sym c.in_default.ensures.ok in
-    let other : eqb cut.end_integer cut.end_number ≡ false = ne_eqb cut.end_integer cut.end_number (λ e. omega (arith, c.if-end_integer-end_number.false)) in
+    let other : eqb cut.end_integer cut.end_number ≡ false = ne_eqb cut.end_integer cut.end_number (λ e. omega (arith, c.if-cut-end_number.false)) in
     sym (refusal_of_cut cut bs c.utf8.input c.requires.parts ∙ row_none _ _ _ _ _ _ _ _ _ wrong digit suffix other)

@@ -21,7 +21,7 @@ returns-then-len-rest-clause-refused c =
       table = blanks_refused _ c.args.rest.now _ _
           (two_of c.args.rest.now _ _ first (rest_is c.as_bytes.result.now c.args.rest.now 1 c.as_bytes.ensures.value)
           (sym c.begins_with_byte.ensures ∙ c.if-begins_with_byte.true) (take_rest (take (length c.as_bytes.result.now - 1) (drop 1 c.as_bytes.result.now)) 1))
-          c.utf8.rest c.run_end-len.ensures.run c.if-len-rest.true
+          c.utf8.rest c.blanks_len-len.ensures.run c.if-len-rest.true
           ∙ ap Some (sym c.new.ensures.refusal);
       char_span = no_span (chars c.args.rest.now) c.new.result _ c.new.ensures.refusal;
     }
@@ -32,7 +32,7 @@ returns-else-len-rest-clause-ok c =
     continuation_at _ c.args.rest.now _ _
     (two_of c.args.rest.now _ _ first (rest_is c.as_bytes.result.now c.args.rest.now 1 c.as_bytes.ensures.value)
     (sym c.begins_with_byte.ensures ∙ c.if-begins_with_byte.true) (take_rest (take (length c.as_bytes.result.now - 1) (drop 1 c.as_bytes.result.now)) 1))
-    c.utf8.rest c.run_end-len.ensures.run c.if-len-rest.false
+    c.utf8.rest c.blanks_len-len.ensures.run c.if-len-rest.false
 
 pub returns-in-Ok-clause-ok : goal.returns-in-Ok-clause-ok
 returns-in-Ok-clause-ok c =
