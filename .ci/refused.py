@@ -198,7 +198,7 @@ def ended():
     """Rows of strings of more bytes than are put together on the stack, whose values end in every
     number of escapes up to the greatest that is copied at a time, and two more."""
     for count in range(131):
-        plain, escapes, value = 4200 * "a", count * "\\n", count * "%0A"
+        plain, escapes, value = 16500 * "a", count * "\\n", count * "%0A"
         how = "escaped" if count else "plain"
         yield f'Literal,StringLit\t"{plain}{escapes}"\tstring\t\t{how}\t{plain}{value}'
 

@@ -10,10 +10,10 @@ use Rattle.litrs_base.specs.declared.integer.IntegerType.TheVariants as type
 use Rattle.litrs_base.specs.Refusal.{Refusal, without_span, at_byte, spanning}
 use Rattle.litrs_base.specs.Numeral.{numeral, greatest_of}
 use Rattle.litrs_base.specs.IntegerTypes.{type_name}
-use Rattle.litrs_base.specs.Base.{is_digit, is_digit_or_underscore}
+use Rattle.litrs_base.specs.Base.{is_digit}
 use Rattle.litrs_grammar.specs.Suffix.{is_suffix, suffix_refusal}
 use Rattle.litrs_grammar.specs.Integer.{IntegerParts, IsIntegerOf, integer_cut, integer_refusal, integer_value}
-use Rattle.litrs_grammar.proofs.Computing.{computing, decimal, prefixed}
+use Rattle.litrs_grammar.proofs.Computing.{computing, prefixed}
 
 -- the base, the main part and the suffix
 abbrev parts : IntegerBase → String → String → IntegerParts
@@ -38,76 +38,34 @@ IsType type name greatest = (type_name type ≡ codes name) × (greatest_of type
 -- Suffixes
 
 suffixes :
-    (is_suffix (codes "") ≡ true)
-    × (is_suffix (codes "u8") ≡ true)
-    × (is_suffix (codes "_x") ≡ true)
+    (is_suffix (codes "_x") ≡ true)
     × (is_suffix (codes "__") ≡ true)
-    × (is_suffix (codes "_jürgen") ≡ true)
     × (is_suffix (codes "_") ≡ false)
-    × (is_suffix (codes "1x") ≡ false)
-    × (is_suffix (codes "peter\"") ≡ false)
-    × (is_suffix (codes "a1_") ≡ true)
-    × (is_suffix (codes "_1") ≡ true)
-    × (is_suffix (codes " ") ≡ false)
-    × (is_suffix (codes "a b") ≡ false)
-    × (is_suffix (codes "🦊") ≡ false)
 unfolding computing
-suffixes = (refl, refl, refl, refl, refl, refl, refl, refl, refl, refl, refl, refl, refl)
+suffixes = (refl, refl, refl)
 
 suffix_refusals :
-    (suffix_refusal (codes " ") ≡ kind.UnexpectedChar)
-    × (suffix_refusal (codes "_") ≡ kind.InvalidSuffix)
-    × (suffix_refusal (codes "peter\"") ≡ kind.InvalidSuffix)
+    (suffix_refusal (codes "_") ≡ kind.InvalidSuffix)
     × (suffix_refusal (codes "🦊") ≡ kind.InvalidSuffix)
-    -- the last character of ASCII, and the first after it
-    × (suffix_refusal (codes "\u{7f}") ≡ kind.UnexpectedChar)
     × (suffix_refusal (codes "\u{80}") ≡ kind.InvalidSuffix)
-    × (suffix_refusal (codes "5") ≡ kind.UnexpectedChar)
-    × (suffix_refusal (codes "Z ") ≡ kind.InvalidSuffix)
     -- the characters beside the letters
     × (suffix_refusal (codes "`x") ≡ kind.UnexpectedChar)
-    × (suffix_refusal (codes "{x") ≡ kind.UnexpectedChar)
-    × (suffix_refusal (codes "@x") ≡ kind.UnexpectedChar)
-    × (suffix_refusal (codes "[x") ≡ kind.UnexpectedChar)
 unfolding computing
-suffix_refusals = (refl, refl, refl, refl, refl, refl, refl, refl, refl, refl, refl, refl)
+suffix_refusals = (refl, refl, refl, refl)
 
 -- Literals and their parts
 
 literals :
-    Is "0b1111_1111" (parts base.Binary "1111_1111" "")
-    × Is "0o400" (parts base.Octal "400" "")
-    × Is "00b1" (parts base.Decimal "00" "b1")
-    × Is "0_b1" (parts base.Decimal "0_" "b1")
-    × Is "0B1" (parts base.Decimal "0" "B1")
-    × Is "1_000u32" (parts base.Decimal "1_000" "u32")
-    × Is "0xFF_u8" (parts base.Hexadecimal "FF_" "u8")
-    × Is "0x5abcdefgh" (parts base.Hexadecimal "5abcdef" "gh")
+    Is "0o400" (parts base.Octal "400" "")
 unfolding computing
-literals = (
-  prefixed refl refl refl refl refl refl (λ e. cc),
-  prefixed refl refl refl refl refl refl (λ e. cc),
-  decimal refl refl refl refl refl refl refl refl,
-  decimal refl refl refl refl refl refl refl refl,
-  decimal refl refl refl refl refl refl refl refl,
-  decimal refl refl refl refl refl refl refl refl,
-  prefixed refl refl refl refl refl refl (λ e. cc),
-  prefixed refl refl refl refl refl refl (λ e. cc),
-)
+literals = prefixed refl refl refl refl refl refl (λ e. cc)
 
 -- Values
 
 numbers :
-    (numeral 2 (codes "1111_1111") ≡ 255)
-    × (numeral 8 (codes "400") ≡ 256)
-    × (numeral 16 (codes "5abcdef") ≡ 95145455)
-    × (numeral 10 (codes "1_0__00_") ≡ 1000)
-    -- more than 128 bits hold
-    × (numeral 10 (codes "340282366920938463463374607431768211456") ≡ 340282366920938463463374607431768211456)
-    × (numeral 16 (codes "fF") ≡ 255)
-    × (numeral 10 (codes "_") ≡ 0)
+    numeral 2 (codes "1111_1111") ≡ 255
 unfolding computing
-numbers = (refl, refl, refl, refl, refl, refl, refl)
+numbers = refl
 
 values :
     (integer_value (parts base.Binary "10" "") ≡ 2)
@@ -122,131 +80,71 @@ values = (refl, refl, refl, refl, refl)
 
 cuts :
     (integer_cut (codes "0b12") ≡ parts base.Binary "1" "2")
-    × (integer_cut (codes "0x") ≡ parts base.Hexadecimal "" "")
     × (integer_cut (codes "0o_9") ≡ parts base.Octal "_" "9")
-    × (integer_cut (codes "0_x") ≡ parts base.Decimal "0_" "x")
 unfolding computing
-cuts = (refl, refl, refl, refl)
+cuts = (refl, refl)
 
 -- Texts that the grammar allows, and texts that it does not
 
 digits :
-    (is_digit base.Binary 47 ≡ false)
-    × (is_digit base.Binary 48 ≡ true)
-    × (is_digit base.Binary 49 ≡ true)
-    × (is_digit base.Binary 50 ≡ false)
-    × (is_digit base.Octal 47 ≡ false)
+    (is_digit base.Binary 48 ≡ true)
     × (is_digit base.Octal 48 ≡ true)
-    × (is_digit base.Octal 55 ≡ true)
     × (is_digit base.Octal 56 ≡ false)
-    × (is_digit base.Decimal 47 ≡ false)
-    × (is_digit base.Decimal 57 ≡ true)
-    × (is_digit base.Decimal 58 ≡ false)
-    × (is_digit base.Hexadecimal 57 ≡ true)
-    × (is_digit base.Hexadecimal 65 ≡ true)
-    × (is_digit base.Hexadecimal 70 ≡ true)
-    × (is_digit base.Hexadecimal 71 ≡ false)
-    × (is_digit base.Hexadecimal 97 ≡ true)
-    × (is_digit base.Hexadecimal 102 ≡ true)
-    × (is_digit base.Hexadecimal 103 ≡ false)
-    × (is_digit base.Decimal 95 ≡ false)
-    × (is_digit_or_underscore base.Binary 95 ≡ true)
-    × (is_digit_or_underscore base.Binary 50 ≡ false)
 unfolding computing
-digits = (
-  refl,
-  refl,
-  refl,
-  refl,
-  refl,
-  refl,
-  refl,
-  refl,
-  refl,
-  refl,
-  refl,
-  refl,
-  refl,
-  refl,
-  refl,
-  refl,
-  refl,
-  refl,
-  refl,
-  refl,
-  refl,
-)
+digits = (refl, refl, refl)
 
 -- Texts that are not refused
 
 accepted :
     Accepted "1_000u32"
     × Accepted "1_"
-    × Accepted "123hackerman"
-    × Accepted "55f32"
     × Accepted "0b10"
-    × Accepted "0o17"
-    × Accepted "0xe1"
-    × Accepted "0o7_x"
-    × Accepted "0xE"
 unfolding computing
-accepted = (refl, refl, refl, refl, refl, refl, refl, refl, refl)
+accepted = (refl, refl, refl)
 
 -- Refused texts, by the rows of the table
 
-rows-empty : Refused "" (without_span kind.Empty)
+rows-empty :
+    Refused "" (without_span kind.Empty)
 unfolding computing
 rows-empty = refl
 
 rows-does_not_start_with_digit :
     Refused "true" (at_byte 0 kind.DoesNotStartWithDigit)
     × Refused "a1" (at_byte 0 kind.DoesNotStartWithDigit)
-    × Refused "_3" (at_byte 0 kind.DoesNotStartWithDigit)
 unfolding computing
-rows-does_not_start_with_digit = (refl, refl, refl)
+rows-does_not_start_with_digit = (refl, refl)
 
 rows-invalid_digit :
     Refused "0b12" (at_byte 3 kind.InvalidDigit)
     × Refused "0o8" (at_byte 2 kind.InvalidDigit)
-    × Refused "0b2" (at_byte 2 kind.InvalidDigit)
 unfolding computing
-rows-invalid_digit = (refl, refl, refl)
+rows-invalid_digit = (refl, refl)
 
 rows-unexpected_char :
-    Refused "0 " (spanning 1 2 kind.UnexpectedChar)
-    × Refused "1." (spanning 1 2 kind.UnexpectedChar)
-    × Refused "0b/" (spanning 2 3 kind.UnexpectedChar)
-    × Refused "0o/" (spanning 2 3 kind.UnexpectedChar)
-    -- the last ASCII character
-    × Refused "1\u{7f}" (spanning 1 2 kind.UnexpectedChar)
+    Refused "0b/" (spanning 2 3 kind.UnexpectedChar)
 unfolding computing
-rows-unexpected_char = (refl, refl, refl, refl, refl)
+rows-unexpected_char = refl
 
 rows-invalid_suffix :
-    Refused "1🦊" (spanning 1 5 kind.InvalidSuffix)
-    × Refused "1e+x" (spanning 1 4 kind.InvalidSuffix)
+    Refused "1e+x" (spanning 1 4 kind.InvalidSuffix)
     × Refused "1a " (spanning 1 3 kind.InvalidSuffix)
-    × Refused "0xg " (spanning 2 4 kind.InvalidSuffix)
-    × Refused "1\u{80}" (spanning 1 3 kind.InvalidSuffix)
 unfolding computing
-rows-invalid_suffix = (refl, refl, refl, refl, refl)
+rows-invalid_suffix = (refl, refl)
 
 rows-integer_suffix_starting_with_e :
     Refused "1e3" (at_byte 1 kind.IntegerSuffixStartingWithE)
     -- the prefix counts in the place
     × Refused "0b1e3" (at_byte 3 kind.IntegerSuffixStartingWithE)
-    × Refused "0be" (at_byte 2 kind.IntegerSuffixStartingWithE)
     × Refused "1E" (at_byte 1 kind.IntegerSuffixStartingWithE)
 unfolding computing
-rows-integer_suffix_starting_with_e = (refl, refl, refl, refl)
+rows-integer_suffix_starting_with_e = (refl, refl, refl)
 
 rows-no_digits :
-    Refused "0x" (spanning 2 2 kind.NoDigits)
-    × Refused "0xg" (spanning 2 2 kind.NoDigits)
-    × Refused "0o" (spanning 2 2 kind.NoDigits)
+    Refused "0xg" (spanning 2 2 kind.NoDigits)
     × Refused "0x_" (spanning 2 3 kind.NoDigits)
 unfolding computing
-rows-no_digits = (refl, refl, refl, refl)
+rows-no_digits = (refl, refl)
 
 -- Types
 
