@@ -2,7 +2,7 @@
 """Checks the comments of the crates against the conventions of Rust's API documentation.
 
 The summary of a function begins with a verb in the third person, or with a link to the function that it is like. No comment
-of `src/` and `specs/` begins with a word of `RIDDLES` or has a construction of `FORBIDDEN`. Prints each fault with its place,
+of `src/`, `specs/` and `proofs/` begins with a word of `RIDDLES` or has a construction of `FORBIDDEN`. Prints each fault with its place,
 and the number of summaries.
 """
 import pathlib
@@ -83,7 +83,8 @@ def main():
         if len(found) != count:
             sys.exit(f"voice: {len(found)} faults, and not {count}, in the example {text!r}: {found}")
     total, faults = [], 0
-    for path in sorted([*TOP.glob("crates/*/src/**/*.rt"), *TOP.glob("crates/*/specs/**/*.antt")]):
+    files = [*TOP.glob("crates/*/src/**/*.rt"), *TOP.glob("crates/*/specs/**/*.antt"), *TOP.glob("crates/*/proofs/**/*.antt")]
+    for path in sorted(files):
         found, kinds = faults_of(path.read_text().split("\n"))
         total += kinds
         faults += len(found)
