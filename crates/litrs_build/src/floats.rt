@@ -13,9 +13,9 @@ ghost use Rattle.litrs.specs.FloatLiteral.{float_parts};
 ghost use Rattle.litrs_build.specs.BuiltFloat.{is_float};
 
 use crate::error::BuildError;
-use crate::integers::begins_with_e;
 use litrs::FloatLit;
 use litrs_lex::check_suffix;
+use litrs_lex::integer::begins_with_e;
 use std::alloc::{AllocError, Global};
 
 /// Builds the float with these parts, for example `147.3_33__E3f64` from `147`, `Some("3_33__")`,

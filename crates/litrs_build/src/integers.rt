@@ -18,6 +18,7 @@ ghost use Rattle.litrs_build.specs.BuiltInteger.{NoIntegerHasSuffix, is_integer_
 use crate::error::BuildError;
 use litrs::{IntegerBase, IntegerLit, Text};
 use litrs_lex::check_suffix;
+use litrs_lex::integer::begins_with_e;
 use std::alloc::{AllocError, Global};
 
 /// The greatest number of digits of a 128 bit number, in base two.
@@ -139,16 +140,6 @@ fn begins_apart(base: IntegerBase, bytes: &[u8]) -> bool
         && not (first_passes (is_digit_or_underscore base) bytes.now)) }
 {
     !begins_with_e(bytes) && !begins_with_digit_or_underscore(base, bytes)
-}
-
-/// Returns `true` if `e` or `E` comes first.
-pub(crate) fn begins_with_e(bytes: &[u8]) -> bool
-    ensures { result ≡ first_passes is_e bytes.now }
-{
-    match bytes {
-        [first, ..] => *first == b'e' || *first == b'E',
-        [] => false,
-    }
 }
 
 /// Returns `true` if a digit of the base or `_` comes first.

@@ -1,8 +1,7 @@
 //! A value in a container.
-ghost use Rattle.std.specs.Prelude.{◌≡◌, ◌≤◌, ◌<◌, ◌+◌, ◌++◌, [], List, ℕ, length, IsTrue, IsFalse};
+ghost use Rattle.std.specs.Prelude.{◌≡◌, ◌≤◌, ◌<◌, ◌+◌, ◌++◌, [], length, IsTrue, IsFalse};
 ghost use Rattle.std.specs.Str.{IsUtf8};
-ghost use Rattle.litrs_grammar.specs.Escape.{value_bytes};
-ghost use Rattle.litrs_lex.specs.Container.{is_pushable, IsFilledTo};
+ghost use Rattle.litrs_lex.specs.Container.{IsFilledTo};
 
 use crate::container::EscapeContainer;
 use crate::room::Room;
@@ -56,51 +55,6 @@ impl<C: EscapeContainer> Filled<C> {
         }
         self.into
     }
-
-    /// Adds `bytes`. Returns `false` if they do not fit.
-    #[inline(always)]
-    fn push_bytes(&mut self, bytes: &[u8]) -> bool
-        requires bytes { IsFalse C.TAKES_BYTES → IsUtf8 bytes.now }
-        requires piece { IsFalse C.TAKES_BYTES → IsUtf8 self.old.piece }
-        ensures kept { C.capacity self.old.into ≤ C.capacity self.new.into }
-        ensures taken { IsTrue result → (v : List ℕ) →
-            IsFilledTo C.TAKES_BYTES (C.contents self.old.into) self.old.piece v →
-            IsFilledTo C.TAKES_BYTES (C.contents self.new.into) self.new.piece (v ++ bytes.now) }
-        ensures full { IsFalse result → (v : List ℕ) →
-            IsFilledTo C.TAKES_BYTES (C.contents self.old.into) self.old.piece v →
-            IsFilledTo C.TAKES_BYTES (C.contents self.new.into) self.new.piece v
-            × (C.capacity self.old.into < length v + length bytes.now) }
-    {
-        if self.piece.push_bytes(bytes) {
-            return true;
-        }
-        self.flush() && self.into.push_bytes(bytes).is_ok()
-    }
-
-    /// Adds the value of an escape. Returns `false` if it does not fit.
-    #[inline(always)]
-    fn push_value(&mut self, value: Unescape) -> bool
-        requires value { IsTrue (is_pushable C.TAKES_BYTES value) }
-        requires piece { IsFalse C.TAKES_BYTES → IsUtf8 self.old.piece }
-        ensures kept { C.capacity self.old.into ≤ C.capacity self.new.into }
-        ensures taken { IsTrue result → (v : List ℕ) →
-            IsFilledTo C.TAKES_BYTES (C.contents self.old.into) self.old.piece v →
-            IsFilledTo C.TAKES_BYTES (C.contents self.new.into) self.new.piece
-            (v ++ value_bytes value) }
-        ensures full { IsFalse result → (v : List ℕ) →
-            IsFilledTo C.TAKES_BYTES (C.contents self.old.into) self.old.piece v →
-            IsFilledTo C.TAKES_BYTES (C.contents self.new.into) self.new.piece v
-            × (C.capacity self.old.into < length v + length (value_bytes value)) }
-    {
-        match value {
-            Unescape::Byte(byte) => self.push_bytes(&[byte]),
-            Unescape::Unicode(c) => {
-                let mut buffer = [0; 4];
-                let text = c.encode_utf8(&mut buffer);
-                self.push_bytes(text.as_bytes())
-            }
-        }
-    }
 }
 
 impl<C: EscapeContainer> Sink for Filled<C> {
@@ -123,7 +77,9 @@ impl<C: EscapeContainer> Sink for Filled<C> {
     fn push(&mut self, value: Option<Unescape>) -> bool {
         match value {
             None => true,
-            Some(value) => self.push_value(value),
+            Some(value) => {
+                self.piece.push_value(value) || self.flush() && self.piece.push_value(value)
+            }
         }
     }
 }

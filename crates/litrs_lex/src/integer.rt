@@ -112,7 +112,7 @@ fn cut_refusal(cut: &IntegerCut, input: &str) -> Option<(Range<usize>, ParseErro
 }
 
 /// Returns `true` if `bytes` starts with `e` or `E`.
-fn begins_with_e(bytes: &[u8]) -> bool
+pub fn begins_with_e(bytes: &[u8]) -> bool
     ensures { result ≡ first_passes is_e bytes.now }
 {
     matches!(bytes, [b'e' | b'E', ..])

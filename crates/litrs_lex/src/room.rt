@@ -1,6 +1,8 @@
 //! A value on the stack.
-ghost use Rattle.std.specs.Prelude.{◌≡◌, ◌≤◌, ◌<◌, ◌+◌, ◌-◌, ◌++◌, [], List, ℕ, true, length, take, drop, IsTrue, IsFalse};
+ghost use Rattle.std.specs.Prelude.{◌≡◌, ◌≤◌, ◌<◌, ◌+◌, ◌-◌, ◌++◌, [], List, ℕ, Bool, true, length, take, drop, IsTrue, IsFalse};
+ghost use Rattle.std.specs.Str.{IsUtf8};
 ghost use Rattle.litrs_grammar.specs.Escape.{value_bytes};
+ghost use Rattle.litrs_lex.specs.Container.{is_pushable};
 
 use crate::sink::Sink;
 use litrs_base::Unescape;
@@ -104,15 +106,18 @@ impl<const N: usize> Room<N> {
         ensures taken { IsTrue result → self.new ≡ self.old ++ value_bytes value }
         ensures full { IsFalse result →
             (self.new ≡ self.old) × (N < length self.old + length (value_bytes value)) }
+        ensures text { (takes_bytes : Bool) → IsTrue (is_pushable takes_bytes value) →
+            IsFalse takes_bytes → IsUtf8 (value_bytes value) }
     {
         match value {
             Unescape::Byte(byte) => self.push_bytes(&[byte]),
-            Unescape::Unicode(c) if c.is_ascii() => self.push_bytes(&[c as u8]),
-            Unescape::Unicode(c) => {
+            Unescape::Unicode(c) => if c.is_ascii() {
+                self.push_bytes(&[c as u8])
+            } else {
                 let mut buffer = [0; 4];
                 let text = c.encode_utf8(&mut buffer);
                 self.push_bytes(text.as_bytes())
-            }
+            },
         }
     }
 }

@@ -4,7 +4,7 @@ use Rattle.std.specs.Prelude.{◌==◌, ◌||◌, nat_le}
 use Rattle.std.specs.Char.{is_ascii_digit, is_ascii_alphabetic}
 use Rattle.std.specs.List.{prefix_len, list_all}
 use Rattle.std.specs.Str.{chars, IsUtf8}
-use Rattle.std.proofs.lemmas.Bool.{and_parts, or_cases, eqb-true, true≢false, false≢true, not-true}
+use Rattle.std.proofs.lemmas.Bool.{and_parts, or_cases, or_from, eqb-true, ne_eqb, true≢false, false≢true, not-true}
 use Rattle.std.proofs.lemmas.Bool.Decides.{nat_tests}
 use Rattle.std.proofs.lemmas.List.{drop_at}
 use Rattle.std.proofs.lemmas.Str.{IsUtf8-drop}
@@ -18,6 +18,7 @@ use Rattle.litrs_base.specs.declared.quotes.CharKind.TheVariants.{Char as char_k
 use Rattle.litrs_base.specs.declared.quotes.StringKind.{StringKind}
 use Rattle.litrs_base.specs.declared.quotes.StringKind.TheVariants.{String as string_kind, ByteString as byte_string_kind, CString as c_string_kind}
 use Rattle.litrs_base.specs.Text.{first_passes}
+use Rattle.litrs_base.proofs.Chars.{OnlyAscii, first_passes-chars}
 use Rattle.litrs_base.proofs.ListTests.{if_true, if_false}
 use Rattle.litrs_grammar.specs.Bool.{bool_text}
 use Rattle.litrs_grammar.specs.Float.{IsFloatOf, is_decimal_char, is_period}
@@ -99,6 +100,13 @@ bare_e l r x h bare e f mark =
     (ap (λ (s : List ℕ). first_passes is_e (after_digits (prefix x.base ++ (x.main ++ s)))) (sym rest) ∙ (ap (λ (s : List ℕ). first_passes is_e (after_digits s)) (sym (longer_integer l r x h)) ∙ mark)) in
     let name : ends_suffix [] r ≡ true = subst (λ (s : List ℕ). ends_suffix s r ≡ true) bare e in
     true≢false (sym (e_starts r there) ∙ not-true _ name)
+
+e_ascii : OnlyAscii is_e
+e_ascii c high = or_from _ _ (ne_eqb c 101 (λ e. omega arith)) (ne_eqb c 69 (λ e. omega arith))
+
+-- the first byte decides
+pub e_first : (bs t : List ℕ) → IsUtf8 bs → chars bs ≡ t → first_passes is_e bs ≡ true → first_passes is_e t ≡ true
+e_first bs t u is h = ap (first_passes is_e) (sym is) ∙ (first_passes-chars is_e bs e_ascii u ∙ h)
 
 pub only_at_e : (t : List ℕ) → first_passes is_e (after_digits t) ≡ true → IsOnlyRest t (after_opened t)
 only_at_e t mark = λ d r at. elim (only_rest t d r at) [

@@ -8,7 +8,6 @@ ghost use Rattle.litrs_base.specs.Text.{first_passes};
 ghost use Rattle.litrs_base.specs.Quotes.{char_front, quoted_front, raw_front, switches_of};
 ghost use Rattle.litrs_grammar.specs.CharByte.{allows_char, is_char_item, plain_char};
 ghost use Rattle.litrs_grammar.specs.Float.{is_period};
-ghost use Rattle.litrs_grammar.specs.Integer.{is_e};
 ghost use Rattle.litrs.specs.LiteralDerivation.{literal_raw, derivation};
 ghost use Rattle.litrs_lex.specs.RawCut.{IsRawOpening};
 ghost use Rattle.litrs_lex.specs.Reading.{IsItemsEnd};
@@ -27,6 +26,7 @@ use crate::opening::begins_with_quote;
 use crate::piece::{integer_follows, is_e};
 use litrs::{Literal, StringLit};
 use litrs_base::{CharKind, begins_with_digit, split_first_char};
+use litrs_lex::integer::begins_with_e;
 use litrs_lex::quoted::{items_end, plain_body_end};
 use litrs_lex::raw::{body_end, open_raw};
 use litrs_lex::{InByteString, InCString, InString, Run, StringKind, run_end, unescape_with};
@@ -42,7 +42,7 @@ pub fn number_extent(text: &str) -> Result<usize, usize>
     let rest = after_digits(text);
     if begins_with_letter(rest) {
         word_extent(text)
-    } else if begins_with_e(rest) {
+    } else if begins_with_e(rest.as_bytes()) {
         judged_extent(text)
     } else {
         match after_number(text, rest) {
@@ -79,16 +79,6 @@ fn begins_with_letter(text: &str) -> bool
 {
     match split_first_char(text) {
         Some((c, _)) => c.is_ascii_alphabetic() && !is_e(c),
-        None => false,
-    }
-}
-
-/// Returns `true` if `text` starts with `e` or `E`.
-fn begins_with_e(text: &str) -> bool
-    ensures { result ≡ first_passes is_e (chars text.now) }
-{
-    match split_first_char(text) {
-        Some((c, _)) => is_e(c),
         None => false,
     }
 }
