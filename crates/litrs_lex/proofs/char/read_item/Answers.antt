@@ -1,5 +1,5 @@
 -- Each arm by its row.
-use Rattle.std.proofs.Common.{sym, ap, ◌∙◌, Some, rules}
+use Rattle.std.proofs.Common.{sym, ap, ◌∙◌, Some}
 use Rattle.litrs_base.specs.Refusal.{without_span}
 use Rattle.litrs_lex.proofs.CharByteBytes.{end_refused, begins_get, none_first, slash_begins, ok_escape, err_escape}
 use Rattle.litrs_lex.proofs.char.read_item.Goals as goal
@@ -16,6 +16,3 @@ returns-in-92-clause-ok c = ok_escape c.args.kind c.args.rest.now _ c.unescape_w
 
 pub returns-in-92-clause-refused : goal.returns-in-92-clause-refused
 returns-in-92-clause-refused c = err_escape c.args.kind c.args.rest.now _ c.unescape_with.result c.switches.ensures (begins_get c.args.rest.now c.as_bytes.result.now 92 c.as_bytes.ensures.value (ap Some (sym c.in-92.is) ∙ c.in-Some.ensures.value)) c.unescape_with.ensures.refused
-
-pub returns-in-39-clause-ok : goal.returns-in-39-clause-ok
-returns-in-39-clause-ok c = search rules

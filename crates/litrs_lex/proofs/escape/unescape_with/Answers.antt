@@ -49,6 +49,3 @@ returns-then-unicode-clause-refused c = err_refused _ _ c.unescape_unicode.resul
 
 pub returns-in_default-letter-clause-refused : goal.returns-in_default-letter-clause-refused
 returns-in_default-letter-clause-refused c = err_refused _ _ c.unescape_simple.result c.requires c.unescape_simple.ensures.refused
-
-pub returns-in_default-letter-clause-ok : goal.returns-in_default-letter-clause-ok
-returns-in_default-letter-clause-ok c = c.unescape_simple.ensures.ok

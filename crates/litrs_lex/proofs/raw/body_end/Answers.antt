@@ -30,9 +30,6 @@ next_special_masked-requires-clause-from c =
 pub next_special_masked-requires-clause-after : goal.next_special_masked-requires-clause-after
 next_special_masked-requires-clause-after c = omega (arith, c.loop-what.invariant.1)
 
-pub next_special_masked-requires-clause-mask : goal.next_special_masked-requires-clause-mask
-next_special_masked-requires-clause-mask c = c.loop-what.invariant.2
-
 pub loop-what-preserved : goal.loop-what-preserved
 loop-what-preserved c =
     let w = c.args.allowed in
@@ -47,9 +44,6 @@ loop-what-preserved c =
       c.next_special_masked.ensures.after,
       c.next_special_masked.ensures.mask,
     )
-
-pub returns-clause-stop : goal.returns-clause-stop
-returns-clause-stop c = c.loop-what.invariant.0
 
 pub returns-clause-closing : goal.returns-clause-closing
 returns-clause-closing c =

@@ -14,9 +14,6 @@ returns-in_err-hashes-clause-refused c =
     rw (p.1) (c.in_err-hashes.ensures.refused c.args.allowed.unicode c.args.allowed.allow_nul
     ∙ ap (λ (r : Option (Range ℕ) × ParseErrorKind). Some (refusal r.0 r.1)) (sym p.2))
 
-pub cut_body-requires : goal.cut_body-requires
-cut_body-requires c = c.in_ok-hashes.ensures.ok.boundary
-
 pub returns-in_err-place-clause-refused : goal.returns-in_err-place-clause-refused
 returns-in_err-place-clause-refused c =
     let text = c.args.input.now in

@@ -10,6 +10,3 @@ pub returns-in-Err-clause-refused : goal.returns-in-Err-clause-refused
 returns-in-Err-clause-refused c =
     raw_refused c.args.unicode c.args.allow_nul c.args.offset c.args.input.now c.in_text.result c.utf8.input c.requires
     (c.in-Err.ensures.refused ∙ ap Some (sym c.in_text.ensures.refusal)) c.in_text.ensures.char_span
-
-pub returns-in-Ok-clause-ok : goal.returns-in-Ok-clause-ok
-returns-in-Ok-clause-ok c = c.in-Ok.ensures.ok

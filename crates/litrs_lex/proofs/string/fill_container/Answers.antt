@@ -12,9 +12,6 @@ copied-requires-clause-room g c =
     let most = begun_value _ c.args.input.now _ _ _ within.parts read within.grammar in
     let fits = within.fits in omega (arith, ap length read.held)
 
-pub finish-requires-clause-text : goal.finish-requires-clause-text
-finish-requires-clause-text g c = c.in-Quote.ensures.reached.read.held.1
-
 pub finish-requires-clause-room : goal.finish-requires-clause-room
 finish-requires-clause-room g c =
     let body = c.in-Quote.ensures.reached in let within = c.requires.room in

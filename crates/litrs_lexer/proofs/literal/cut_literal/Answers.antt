@@ -9,12 +9,6 @@ use Rattle.litrs_lexer.proofs.literal.cut_literal.Goals as goal
 pub opened_extent-requires : goal.opened_extent-requires
 opened_extent-requires c = opened_parts (chars c.args.text.now) c.requires
 
-pub split_at-requires : goal.split_at-requires
-split_at-requires c = c.in-Ok.ensures.literal.boundary
-
-pub split_at-requires-in-Err : goal.split_at-requires-in-Err
-split_at-requires-in-Err c = c.in-Err.ensures.malformed.boundary
-
 pub returns-in-Ok-clause-cut : goal.returns-in-Ok-clause-cut
 returns-in-Ok-clause-cut c =
     let text = c.args.text.now in

@@ -11,9 +11,6 @@ use Rattle.litrs_prefix.proofs.plain.after_escape.Goals as goal
 pub unescape_with-requires : goal.unescape_with-requires
 unescape_with-requires c = or_right _ _ c.requires
 
-pub split_at-requires : goal.split_at-requires
-split_at-requires c = c.in-Ok.ensures.ok.boundary
-
 pub returns-in-Ok : goal.returns-in-Ok
 returns-in-Ok c =
     let is = c.in-Ok.ensures.ok in

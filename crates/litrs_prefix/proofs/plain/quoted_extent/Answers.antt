@@ -7,9 +7,6 @@ use Rattle.litrs_prefix.proofs.PlainLiterals.{before_of, quoted_ends}
 use Rattle.litrs_prefix.proofs.Unclosed.{quoted_unclosed}
 use Rattle.litrs_prefix.proofs.plain.quoted_extent.Goals as goal
 
-pub split_at-requires : goal.split_at-requires
-split_at-requires c = c.items_len-end.ensures.read.boundary
-
 pub returns-then-ends_name-clause-literal : goal.returns-then-ends_name-clause-literal
 returns-then-ends_name-clause-literal c =
     let text = c.args.text.now in

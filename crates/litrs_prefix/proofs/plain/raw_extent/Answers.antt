@@ -7,8 +7,5 @@ use Rattle.litrs_prefix.proofs.plain.raw_extent.Goals as goal
 pub open_raw-requires : goal.open_raw-requires
 open_raw-requires c = IsCharBoundary-start c.args.body.now c.utf8.body
 
-pub raw_body_extent-requires-clause-opening : goal.raw_body_extent-requires-clause-opening
-raw_body_extent-requires-clause-opening c = c.in-Ok.ensures.ok
-
 pub judged_extent-requires-clause-only : goal.judged_extent-requires-clause-only
 judged_extent-requires-clause-only c = only_raw c.args.kind (chars c.args.text.now) (chars c.args.body.now) c.requires.front
