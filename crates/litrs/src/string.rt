@@ -103,8 +103,8 @@ impl<B: Text> StringLit<B> {
         })
     }
 
-    /// Creates the string with the text `raw`, a quoted body without a backslash and without a suffix,
-    /// such as `"foo"`. It is not parsed, and nothing is allocated.
+    /// Creates the string with the text `raw`, a quoted body without a backslash and without a
+    /// suffix, such as `"foo"`. Does not parse `raw`, and does not allocate.
     #[inline(always)]
     pub fn plain(raw: B) -> StringLit<B>
         requires { IsPlainString (B.bytes raw) }
