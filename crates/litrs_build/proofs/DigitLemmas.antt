@@ -1,5 +1,5 @@
 -- The digits of a number: each is one of the base, and together they have its value.
-use Rattle.std.proofs.Common.{◌≡◌, inl, inr, ℕ, suc, ◌+◌, ◌-◌, ◌*◌, ◌/◌, ◌%◌, ◌^◌, ◌≤◌, ◌<◌, true, ◌||◌, eqb, List, [], ◌∷◌, ◌++◌, map, length, drop, set, refl, sym, ap, ◌∙◌, arith}
+use Rattle.std.proofs.Common.{◌≡◌, inl, inr, ℕ, zero, suc, ◌+◌, ◌-◌, ◌*◌, ◌/◌, ◌%◌, ◌^◌, ◌≤◌, ◌<◌, true, ◌||◌, eqb, List, [], ◌∷◌, ◌++◌, map, length, take, drop, replicate, set, refl, sym, ap, ◌∙◌, arith}
 use Rattle.std.specs.Prelude.{codes}
 use Rattle.std.specs.Char.{digit_char, digit_value, to_ascii_lowercase}
 use Rattle.std.specs.Int.{is_in_range}
@@ -7,11 +7,11 @@ use Rattle.std.specs.Int.Digits.{digits_of, number_from_digits_after, AllBelowBa
 use Rattle.std.specs.List.{list_all}
 use Rattle.std.proofs.lemmas.Bool.{and_from, or_left, or_right, lt-ltb, le-ltb, le-leb, eq-eqb, ne_eqb, cond-true, cond-false, cond_both, cases_lt, cases_eq, eqb-true, eqb-false}
 use Rattle.std.specs.Fmt.{decimal}
-use Rattle.std.proofs.lemmas.Fmt.{decimal-digits_of, decimal_digit}
+use Rattle.std.proofs.lemmas.Fmt.{decimal-digits_of, decimal_digit, length-decimal-le}
 use Rattle.std.proofs.lemmas.Int.Digits.{digits_of_step, length-digits_of_step, length-digits_of-le, all_below_base_digits_of, number_digits_of}
-use Rattle.std.proofs.lemmas.List.{append_assoc, length-map, map_push, drop-set, drop_all}
+use Rattle.std.proofs.lemmas.List.{append_assoc, length-append, length-map, length-replicate, length-take-le, map_push, drop-set, drop_all, drop-append-le, drop-replicate, replicate-append-replicate, take-append-drop, take-append-le, take-replicate}
 use Rattle.std.proofs.lemmas.Str.{digit_value-digit_char}
-use Rattle.std.proofs.Math.Nat.{pow-zero, pow-suc, pow-le-pow_left}
+use Rattle.std.proofs.Math.Nat.{pow-zero, pow-suc, pow-le-pow_left, one-le-pow, le-mul_of_pos_right, mul_assoc}
 use Rattle.litrs_base.specs.declared.integer.IntegerBase.{IntegerBase}
 use Rattle.litrs_base.specs.declared.integer.IntegerBase.TheVariants.{Binary, Octal, Decimal, Hexadecimal}
 use Rattle.litrs_base.specs.Base.{base_value, is_digit}
@@ -225,3 +225,157 @@ decimal_digits n small = elim (cases_eq n 0) [
       ∙ (ten_chars (digits_of 10 n) (all_below_base_digits_of 10 n (omega arith))
       ∙ sym (cond-false (eqb n 0) (codes "0") (map digit_char (digits_of 10 n)) (ne_eqb n 0 ne))))
 ]
+
+-- The digits of a large number are those of its quotient, and the last ones with leading zeros.
+
+abbrev pub all_digits : ℕ → List ℕ
+all_digits n = map digit_char (digits_of 10 n)
+
+abbrev pub padded : (k n : ℕ) → List ℕ
+padded k n = let ds = written_digits Decimal n in replicate (k - length ds) 48 ++ ds
+
+one_digit : (n : ℕ) → n < 10 → written_digits Decimal n ≡ digit_char n ∷ []
+one_digit n small = elim (cases_eq n 0) [
+  | inl is ↦ cond-true (eqb n 0) (codes "0") (all_digits n) (eq-eqb n 0 is)
+      ∙ ap (λ m. digit_char m ∷ []) (sym is)
+  | inr ne ↦ (let some : 0 < n = omega arith in
+      let last : n / 10 ≡ 0 = omega arith in
+      let itself : n % 10 ≡ n = omega arith in
+      cond-false (eqb n 0) (codes "0") (all_digits n) (ne_eqb n 0 ne)
+      ∙ (ap (map digit_char) (digits_of_step 10 n (omega arith) some)
+      ∙ (λ i. map digit_char (digits_of 10 (last i) ++ (itself i ∷ [])))))
+]
+
+last_digit : (n : ℕ) → 0 < n → all_digits n ≡ all_digits (n / 10) ++ (digit_char (n % 10) ∷ [])
+last_digit n some = ap (map digit_char) (digits_of_step 10 n (omega arith) some)
+    ∙ map_push digit_char (digits_of 10 (n / 10)) (n % 10)
+
+not_zero : (n : ℕ) → 0 < n → written_digits Decimal n ≡ all_digits n
+not_zero n some = cond-false (eqb n 0) (codes "0") (all_digits n) (ne_eqb n 0 (λ e. omega arith))
+
+padded_step : (k n : ℕ) → 1 ≤ k →
+    padded (suc k) n ≡ padded k (n / 10) ++ (digit_char (n % 10) ∷ [])
+padded_step k n some = elim (cases_lt n 10) [
+  | inl low ↦ (let last : n / 10 ≡ 0 = omega arith in
+      let itself : n % 10 ≡ n = omega arith in
+      let before : suc (k - 1) ≡ k = omega arith in
+      ap (λ ds. replicate (suc k - length ds) 48 ++ ds) (one_digit n low)
+      ∙ sym ((λ i. padded k (last i) ++ (digit_char (itself i) ∷ []))
+      ∙ ap (λ zeros. zeros ++ (digit_char n ∷ []))
+      (replicate-append-replicate (k - 1) 1 48 ∙ ap (λ m. replicate m 48) (omega arith))))
+  | inr high ↦ (let d = digit_char (n % 10) in
+      let front = all_digits (n / 10) in
+      let is : written_digits Decimal n ≡ front ++ (d ∷ []) = not_zero n (omega arith)
+      ∙ last_digit n (omega arith) in
+      let longer : suc k - length (front ++ (d ∷ [])) ≡ k - length front
+      = ap (λ l. suc k - l) (length-append front (d ∷ [])) ∙ omega arith in
+      ap (λ ds. replicate (suc k - length ds) 48 ++ ds) is
+      ∙ (ap (λ m. replicate m 48 ++ (front ++ (d ∷ []))) longer
+      ∙ (sym (append_assoc (replicate (k - length front) 48) front (d ∷ []))
+      ∙ ap (λ ds. (replicate (k - length ds) 48 ++ ds) ++ (d ∷ [])) (sym (not_zero (n / 10) (omega arith))))))
+]
+
+-- The quotient is not zero, and the rest has at most `k` digits.
+pub in_chunks : (k q r : ℕ) → 0 < q → r < 10 ^ suc k →
+    all_digits (q * 10 ^ suc k + r) ≡ all_digits q ++ padded (suc k) r
+in_chunks zero q r some small =
+    let one : 10 ^ 1 ≡ 10 = refl in
+    let low : r < 10 = omega (arith, one) in
+    let whole : q * 10 ^ 1 + r ≡ q * 10 + r = ap (λ p. q * p + r) one in
+    let n = q * 10 + r in
+    let front : n / 10 ≡ q = omega arith in
+    let last : n % 10 ≡ r = omega arith in
+    ap all_digits whole
+    ∙ (last_digit n (omega arith)
+    ∙ ((λ i. all_digits (front i) ++ (digit_char (last i) ∷ []))
+    ∙ ap (λ ds. all_digits q ++ ds)
+    (sym (ap (λ ds. replicate (1 - length ds) 48 ++ ds) (one_digit r low)))))
+in_chunks (suc k) q r some small =
+    let p = 10 ^ suc k in
+    let m = q * p in
+    let more : 10 ^ suc (suc k) ≡ p * 10 = pow-suc 10 (suc k) in
+    let whole : q * 10 ^ suc (suc k) + r ≡ m * 10 + r
+    = ap (λ power. q * power + r) more ∙ ap (λ x. x + r) (sym (mul_assoc q p 10)) in
+    let n = m * 10 + r in
+    let front : n / 10 ≡ m + r / 10 = omega arith in
+    let last : n % 10 ≡ r % 10 = omega arith in
+    let power : 1 ≤ p = one-le-pow (suc k) 10 (omega arith) in
+    let large : q ≤ m = le-mul_of_pos_right q power in
+    let rest : r / 10 < p = omega (arith, more) in
+    ap all_digits whole
+    ∙ (last_digit n (omega arith)
+    ∙ ((λ i. all_digits (front i) ++ (digit_char (last i) ∷ []))
+    ∙ (ap (λ ds. ds ++ (digit_char (r % 10) ∷ [])) (in_chunks k q (r / 10) some rest)
+    ∙ (append_assoc (all_digits q) (padded (suc k) (r / 10)) (digit_char (r % 10) ∷ [])
+    ∙ ap (λ ds. all_digits q ++ ds) (sym (padded_step (suc k) r (omega arith)))))))
+
+take_within : (e s : ℕ) (xs : List ℕ) → e ≤ s → s ≤ length xs → take e xs ≡ take e (take s xs)
+take_within e s xs before within =
+    let len = length-take-le s xs within in
+    ap (take e) (sym (take-append-drop s xs))
+    ∙ take-append-le e (take s xs) (drop s xs) (omega (arith, len))
+
+-- A chunk of 19 digits, `digits` of them without leading zeros, is written up to `end`.
+pub write_chunk : (end start : ℕ) (digits before after : List ℕ) →
+    19 ≤ end → start + length digits ≡ end → length digits ≤ 19 → end ≤ length after →
+    take end before ≡ replicate end 48 → take start after ≡ take start before →
+    drop start after ≡ digits ++ drop end before → end ≤ length before →
+    (take (end - 19) after ≡ replicate (end - 19) 48)
+    × (drop (end - 19) after ≡ (replicate (19 - length digits) 48 ++ digits) ++ drop end before)
+write_chunk end start digits before after room starts few within zeros kept written within_before =
+    let e = end - 19 in
+    let front : take start after ≡ replicate start 48 = kept
+    ∙ (take_within start end before (omega arith) within_before
+    ∙ (ap (take start) zeros ∙ take-replicate start end 48 (omega arith))) in
+    let whole : replicate start 48 ++ (digits ++ drop end before) ≡ after
+    = (λ i. sym front i ++ sym written i) ∙ take-append-drop start after in
+    let len = length-replicate {A = ℕ} start 48 in
+    let left : start - e ≡ 19 - length digits = omega arith in (
+      take_within e start after (omega arith) (omega arith)
+          ∙ (ap (take e) front ∙ take-replicate e start 48 (omega arith)),
+      ap (drop e) (sym whole)
+          ∙ (drop-append-le e (replicate start 48) (digits ++ drop end before) (omega (arith, len))
+          ∙ (ap (λ zs. zs ++ (digits ++ drop end before))
+          (drop-replicate e start 48 ∙ ap (λ n. replicate n 48) left)
+          ∙ sym (append_assoc (replicate (19 - length digits) 48) digits (drop end before)))),
+    )
+
+pub written_fits : (n : ℕ) → n < 2 ^ 128 → length (written_digits Decimal n) ≤ 128
+written_fits n small = elim (cases_eq n 0) [
+  | inl is ↦ (let one = ap length (cond-true (eqb n 0) (codes "0") (all_digits n) (eq-eqb n 0 is)) in
+      omega (arith, one))
+  | inr ne ↦ (let same = ap length (not_zero n (omega arith)) in
+      let len = length-map (digits_of 10 n) digit_char in
+      let fits = digits_fit 10 n (omega arith) small in
+      omega (arith, same, len, fits))
+]
+
+-- A number above 64 bits has the digits of its quotient, and 19 more.
+pub next_chunk : (n : ℕ) → 2 ^ 64 ≤ n →
+    let q = n / 10000000000000000000 in
+    let r = n % 10000000000000000000 in
+    ((digits : List ℕ) → digits ≡ written_digits Decimal r → (rest now : List ℕ) →
+    now ≡ (replicate (19 - length digits) 48 ++ digits) ++ rest →
+    written_digits Decimal q ++ now ≡ written_digits Decimal n ++ rest)
+    × (length (written_digits Decimal q) + 19 ≡ length (written_digits Decimal n))
+next_chunk n large =
+    let q = n / 10000000000000000000 in
+    let r = n % 10000000000000000000 in
+    let sum : q * 10 ^ 19 + r ≡ n = omega arith in
+    let all : written_digits Decimal n ≡ written_digits Decimal q ++ padded 19 r
+    = not_zero n (omega arith) ∙ (sym (ap all_digits sum)
+    ∙ (in_chunks 18 q r (omega arith) (omega arith)
+    ∙ ap (λ ds. ds ++ padded 19 r) (sym (not_zero q (omega arith))))) in
+    let few = ap length (sym (decimal_digits r (omega arith))) in
+    let at_most = length-decimal-le 19 r (omega arith) (omega arith) (omega arith) in
+    let joined = length-append (replicate (19 - length (written_digits Decimal r)) 48) (written_digits Decimal r) in
+    let zeros = length-replicate {A = ℕ} (19 - length (written_digits Decimal r)) 48 in
+    let both = length-append (written_digits Decimal q) (padded 19 r) in
+    let whole = ap length all in (
+      λ digits same rest now is.
+          ap (λ t. written_digits Decimal q ++ t) is
+          ∙ (ap (λ ds. written_digits Decimal q ++ ((replicate (19 - length ds) 48 ++ ds) ++ rest)) same
+          ∙ (sym (append_assoc (written_digits Decimal q) (padded 19 r) rest)
+          ∙ ap (λ ds. ds ++ rest) (sym all))),
+      omega (arith, few, at_most, joined, zeros, both, whole),
+    )

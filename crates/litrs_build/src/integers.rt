@@ -1,5 +1,5 @@
 //! Integers from their value.
-ghost use Rattle.std.specs.Prelude.{◌≡◌, ◌≤◌, ◌<◌, ◌∷◌, ◌++◌, [], ◌↔◌, ◌⊎◌, ◌&&◌, ◌==◌, not, filter, length, drop, string_bytes, IsTrue, IfOk, IfErr, OnOk, IsErrOf, if◌then◌else◌};
+ghost use Rattle.std.specs.Prelude.{◌≡◌, ◌≤◌, ◌<◌, ◌∷◌, ◌++◌, [], ◌↔◌, ◌⊎◌, ◌&&◌, ◌==◌, not, filter, length, drop, replicate, string_bytes, IsTrue, IfOk, IfErr, OnOk, IsErrOf, if◌then◌else◌};
 ghost use Rattle.std.specs.Char.{digit_char, is_ascii_digit};
 ghost use Rattle.std.specs.List.{list_all, list_any};
 ghost use Rattle.std.specs.Str.{chars, IsAscii};
@@ -23,6 +23,12 @@ use std::alloc::{AllocError, Global};
 
 /// The greatest number of digits of a 128 bit number, in base two.
 const MAX_DIGITS: usize = 128;
+
+/// The greatest power of ten below 2^64.
+const CHUNK: u128 = 10_000_000_000_000_000_000;
+
+/// The number of decimal digits of a number below [`CHUNK`], with leading zeros.
+const CHUNK_DIGITS: usize = 19;
 
 /// Builds the integer with this value, base and suffix, for example `0xffu8` from 255,
 /// `Hexadecimal` and `u8`. See [`grouped_integer`], which also writes `_` between groups of digits.
@@ -164,8 +170,10 @@ fn is_digit_or_underscore(base: IntegerBase, byte: u8) -> bool
     }
 }
 
-/// Writes the digits of `value` at the end of the buffer. Returns the index of the first.
+/// Writes the digits of `value` at the end of the buffer, whose bytes are all `b'0'`. Returns the
+/// index of the first.
 fn write_digits(value: u128, base: IntegerBase, buffer: &mut [u8; MAX_DIGITS]) -> usize
+    requires { buffer.now ≡ replicate MAX_DIGITS digit_zero }
     ensures digits { drop result buffer.new ≡ written_digits base value }
     ensures within { result ≤ MAX_DIGITS }
 {
@@ -177,15 +185,20 @@ fn write_digits(value: u128, base: IntegerBase, buffer: &mut [u8; MAX_DIGITS]) -
     }
 }
 
-/// Like [`write_digits`], in base ten, by 64 bits if they suffice.
+/// Like [`write_digits`], in base ten, a chunk of digits at a time until the rest fits 64 bits.
 fn write_decimal(value: u128, buffer: &mut [u8; MAX_DIGITS]) -> usize
+    requires { buffer.now ≡ replicate MAX_DIGITS digit_zero }
     ensures digits { drop result buffer.new ≡ written_digits IntegerBase.Decimal value }
     ensures within { result ≤ MAX_DIGITS }
 {
-    if value >> 64 != 0 {
-        return write_in_radix::<10>(value, buffer);
+    let mut rest = value;
+    let mut end = MAX_DIGITS;
+    while rest >> 64 != 0 {
+        itoa::write_digits((rest % CHUNK) as u64, buffer, end);
+        end -= CHUNK_DIGITS;
+        rest /= CHUNK;
     }
-    itoa::write_digits(value as u64, buffer, MAX_DIGITS)
+    itoa::write_digits(rest as u64, buffer, end)
 }
 
 /// Like [`write_digits`], in this radix. The compiler knows it, and shifts in place of a division
