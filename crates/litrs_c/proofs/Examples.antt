@@ -26,7 +26,7 @@ use Rattle.litrs_c.specs.Numbers.{IsCopied, LacksNumberMemory}
 use Rattle.litrs_c.specs.Places.{nowhere}
 use Rattle.litrs_c.specs.Prefixes.{IsPrefixAnd, IsMalformedAnd, LacksMemoryAt}
 use Rattle.litrs_c.specs.RefusalFields.{IsRefusalFields}
-use Rattle.litrs_c.specs.Tokens.{IsTokenFields, IsTokenAt}
+use Rattle.litrs_c.specs.Tokens.{IsTokenFields, IsTokenAt, HasNoTokenAt}
 use Rattle.litrs_c.specs.Writes.{WritesLiteral}
 
 -- Texts
@@ -64,6 +64,10 @@ token : (text : List ℕ) (at : ℕ) (fields : TokenFields) (is : IsTokenAt text
     IsCharBoundary text at × IsFirstToken text (drop at text) is.token (drop fields.place.end text)
     × IsTokenFields is.token fields × (fields.place.start ≡ at)
 token text at fields is = (is.place, is.is, is.are, is.start)
+
+-- or where no token is
+no_token : (text : List ℕ) (at : ℕ) → HasNoTokenAt text at → (at ≡ length text) ⊎ (IsCharBoundary text at → ⊥)
+no_token text at is = is
 
 -- the fields of a line comment
 comment_fields : (found : Token) (fields : TokenFields) → found.kind ≡ LineComment → IsTokenFields found fields →
@@ -110,19 +114,18 @@ great_integer_value fields is = (is.number.has_value, is.number.value)
 -- `1.5e3f32`
 float_fields : (fields : LiteralFields) →
     IsLiteralFields 8 (a_float (record { integer = codes "1"; fraction = Some (codes "5"); exponent = codes "e3"; suffix = codes "f32" })) fields →
-    (fields.kind ≡ 3) × (fields.base ≡ 0) × (fields.has_fraction ≡ true) × (fields.has_value ≡ false)
+    (fields.kind ≡ 3) × (fields.base ≡ 0) × (fields.has_fraction ≡ true)
     × (fields.main ≡ place 0 1) × (fields.fraction ≡ place 2 3) × (fields.exponent ≡ place 3 5)
 unfolding computing
-float_fields fields is = (is.kind, is.base, is.has_fraction, is.number.has_value, is.main, is.fraction, is.exponent)
+float_fields fields is = (is.kind, is.base, is.has_fraction, is.main, is.fraction, is.exponent)
 
 -- `br"a"`
 abbrev raw : Derivation
 raw = a_byte_string (raw_parts (record { hash_count = 0; body = codes "ab"; suffix = [] }))
 
-raw_fields : (fields : LiteralFields) → IsLiteralFields 6 raw fields →
-    (fields.kind ≡ 7) × (fields.is_raw ≡ true) × (fields.has_value ≡ false)
+raw_fields : (fields : LiteralFields) → IsLiteralFields 6 raw fields → (fields.kind ≡ 7) × (fields.is_raw ≡ true)
 unfolding computing
-raw_fields fields is = (is.kind, is.raw, is.number.has_value)
+raw_fields fields is = (is.kind, is.raw)
 
 -- `true`
 bool_fields : (fields : LiteralFields) → IsLiteralFields 4 (a_bool true) fields →
@@ -158,15 +161,10 @@ kept_without_length kept =
 kept_bytes : (old new : List ℕ) (len : ℕ) → IsKept old new len → new ≡ old
 kept_bytes old new len kept = kept.1
 
--- of three bytes two fit, and all are counted
-written_short : (new : List ℕ) (len : ℕ) → IsWritten (codes "abc") (codes "xy") new len → (len ≡ 3) × (new ≡ codes "ab")
-unfolding computing
-written_short new len is = (is.len, is.room)
-
 -- a room that is longer than the bytes keeps its end
-written_long : (new : List ℕ) (len : ℕ) → IsWritten (codes "a") (codes "xyz") new len → (len ≡ 1) × (new ≡ codes "ayz")
+written_long : (new : List ℕ) (len : ℕ) → IsWritten (codes "a") (codes "xyz") new len → new ≡ codes "ayz"
 unfolding computing
-written_long new len is = (is.len, is.room)
+written_long new len is = is.room
 
 -- a part from the second byte on
 written_from : (new : List ℕ) (end : ℕ) → IsWrittenFrom 1 (codes "ab") (codes "wxyz") new end → (end ≡ 3) × (new ≡ codes "wabz")
@@ -190,8 +188,8 @@ message_written new len is = (is.len, is.room)
 
 -- the literal of a value
 literal_written : (old new : List ℕ) (len : ℕ) (d : Derivation) (is : WritesLiteral old new len d) →
-    IsUtf8 is.text × IsLiteral (chars is.text) d × (len ≡ length is.text)
-literal_written old new len d is = (is.utf8, is.literal, is.written.len)
+    IsUtf8 is.text × IsLiteral (chars is.text) d × IsWritten is.text old new len
+literal_written old new len d is = (is.utf8, is.literal, is.written)
 
 -- Numbers that need memory
 
@@ -218,6 +216,10 @@ unfolding computing
 small_integer_stays copied =
     let large : 2 ^ 64 ≤ 27 = copied.2 in
     absurd (omega (arith, large))
+
+-- nor is a bool
+bool_stays : ¬ IsCopied (a_bool true)
+bool_stays copied = copied
 
 -- there was no memory for the value of a text that is not a number, or for the number
 number_lacks_memory : (t : List ℕ) → LacksNumberMemory t → LacksMemory t ⊎ IsLiteralAnd t IsCopied
