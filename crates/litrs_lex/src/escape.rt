@@ -1,7 +1,7 @@
 //! Escapes.
 ghost use Rattle.std.specs.Prelude.{◌≡◌, ◌≢◌, [], ◌∷◌, ◌+◌, Bool, true, ◌&&◌, ◌||◌, ◌==◌, codes, drop, IfOk, IfErr, IsTrue, IsFalse, SomeIff, chars};
 ghost use Rattle.std.specs.Char.{is_ascii_hexdigit};
-ghost use Rattle.litrs_base.specs.Characters.{backslash, letter_x, letter_u, close_brace, nul_is_allowed};
+ghost use Rattle.litrs_base.specs.Characters.{backslash, letter_x, letter_u, underscore, close_brace, nul_is_allowed};
 ghost use Rattle.litrs_base.specs.Text.{first_passes, is_empty, begins_with};
 ghost use Rattle.litrs_grammar.specs.Escape.{is_simple, simple_value, pair_value};
 ghost use Rattle.litrs_lex.specs.Unescaped.{switches, IsUnescaped, IsEscapeRefused, HasEscapeRefusal, IsHexDigits};
@@ -264,7 +264,7 @@ fn unicode_escape_refusal(input: &str, digits: HexDigits) -> ParseError
     if !has_byte(inner, b'}') {
         let kind = ParseErrorKind::UnterminatedUnicodeEscape;
         ParseError::in_text(input, Some(0..input.len()), kind)
-    } else if begins_with_byte(inner, b'}') || begins_with_byte(inner, b'_') {
+    } else if begins_wrongly(inner) {
         let kind = ParseErrorKind::InvalidStartOfUnicodeEscape;
         ParseError::in_text(input, Some(3..4), kind)
     } else if begins_with_hex_digit(&inner[digits.len..]) {
@@ -274,4 +274,11 @@ fn unicode_escape_refusal(input: &str, digits: HexDigits) -> ParseError
         let kind = ParseErrorKind::NonHexDigitInUnicodeEscape;
         ParseError::in_text(input, Some(place..place + 1), kind)
     }
+}
+
+/// Returns `true` if `bytes` starts with `}` or `_`.
+fn begins_wrongly(bytes: &[u8]) -> bool
+    ensures { result ≡ first_passes (λ c. (c == close_brace) || (c == underscore)) bytes.now }
+{
+    matches!(bytes.first(), Some(b'}' | b'_'))
 }

@@ -1,31 +1,17 @@
 -- Each exit by its row.
-use Rattle.std.proofs.Common.{◌≡◌, ℕ, ◌+◌, List, [], ◌∷◌, refl, ap, ◌∙◌, sym, Some, false, true, drop}
+use Rattle.std.proofs.Common.{◌≡◌, ◌+◌, ap, ◌∙◌, sym, Some, false, true, drop}
 use Rattle.litrs_lex.proofs.FloatBytes.{rest_is}
 use Rattle.std.proofs.lemmas.List.{length-take-le}
 use Rattle.std.specs.Prelude.{◌==◌}
 use Rattle.std.specs.Char.{is_ascii_hexdigit}
 use Rattle.std.specs.List.{list_any}
-use Rattle.std.proofs.lemmas.Bool.{true≢false, false_from_ne_true, or_left, or_right, or_from}
+use Rattle.std.proofs.lemmas.Bool.{true≢false, false_from_ne_true}
 use Rattle.litrs_base.specs.Refusal.{at_byte}
 use Rattle.litrs_base.specs.Text.{first_passes}
 use Rattle.litrs_base.specs.declared.err.ParseErrorKind.TheVariants.{TooManyDigitInUnicodeEscape, NonHexDigitInUnicodeEscape}
 use Rattle.litrs_lex.proofs.EscapeBytes.{has_refusal, digit_or_underscore}
 use Rattle.litrs_lex.proofs.UnicodeEscapeBytes.{braced, digit_text, unclosed_row, start_row, stopped, many_row, nonhex_row, is_wrong_start}
 use Rattle.litrs_lex.proofs.escape.unicode_escape_refusal.Goals as goal
-use Rattle.litrs_lex.proofs.escape.unicode_escape_refusal.Goals.{then-begins_with_byte, else-begins_with_byte}
-
--- a text that starts with neither `}` nor `_`, or with one of them
-not_wrong : (l : List ℕ) → first_passes (λ n. n == 125) l ≡ false → first_passes (λ n. n == 95) l ≡ false → first_passes is_wrong_start l ≡ false
-not_wrong [] brace line = refl
-not_wrong (n ∷ l) brace line = or_from (n == 125) (n == 95) brace line
-
-wrong_brace : (l : List ℕ) → first_passes (λ n. n == 125) l ≡ true → first_passes is_wrong_start l ≡ true
-wrong_brace [] brace = brace
-wrong_brace (n ∷ l) brace = or_left (n == 125) (n == 95) brace
-
-wrong_line : (l : List ℕ) → first_passes (λ n. n == 95) l ≡ true → first_passes is_wrong_start l ≡ true
-wrong_line [] line = line
-wrong_line (n ∷ l) line = or_right (n == 125) (n == 95) line
 
 pub returns-then-not-has_byte : goal.returns-then-not-has_byte
 returns-then-not-has_byte c = λ byte_escapes allow_nul.
@@ -35,21 +21,15 @@ returns-then-not-has_byte c = λ byte_escapes allow_nul.
     (unclosed_row byte_escapes allow_nul c.args.input.now b (ap (list_any (λ n. n == 125)) (sym same) ∙ sym c.if-not-has_byte.ensures) ∙ ap Some (sym c.in_text.ensures.refusal))
     c.in_text.ensures.char_span
 
-pub returns-then-begins_with_byte-2 : goal.returns-then-begins_with_byte-2
-returns-then-begins_with_byte-2 c = λ byte_escapes allow_nul.
+pub returns-then-begins_wrongly : goal.returns-then-begins_wrongly
+returns-then-begins_wrongly c = λ byte_escapes allow_nul.
     let b = braced c.args.input.now c.utf8.input c.requires.begins in
     let same = rest_is c.as_bytes.result.now c.args.input.now 3 c.as_bytes.ensures.value in
-    let wrong : first_passes is_wrong_start (drop 3 c.args.input.now) ≡ true = elim c.if-begins_with_byte.branch [
-      | then-begins_with_byte w ↦
-          wrong_brace (drop 3 c.args.input.now) (ap (first_passes (λ n. n == 125)) (sym same) ∙ (sym c.begins_with_byte.ensures ∙ w.if-begins_with_byte.true))
-      | else-begins_with_byte w ↦
-          wrong_line (drop 3 c.args.input.now) (ap (first_passes (λ n. n == 95)) (sym same)
-          ∙ (sym w.begins_with_byte-else-begins_with_byte.ensures ∙ (sym w.value-is ∙ c.if-begins_with_byte-2.true)))
-    ] in
-    has_refusal _ _ c.in_text-then-begins_with_byte-2.result
-    (start_row byte_escapes allow_nul c.args.input.now b (ap (list_any (λ n. n == 125)) (sym same) ∙ sym c.if-not-has_byte.ensures) wrong
-    ∙ ap Some (sym c.in_text-then-begins_with_byte-2.ensures.refusal))
-    c.in_text-then-begins_with_byte-2.ensures.char_span
+    has_refusal _ _ c.in_text-then-begins_wrongly.result
+    (start_row byte_escapes allow_nul c.args.input.now b (ap (list_any (λ n. n == 125)) (sym same) ∙ sym c.if-not-has_byte.ensures)
+    (ap (first_passes is_wrong_start) (sym same) ∙ sym c.if-begins_wrongly.ensures)
+    ∙ ap Some (sym c.in_text-then-begins_wrongly.ensures.refusal))
+    c.in_text-then-begins_wrongly.ensures.char_span
 
 pub returns-then-begins_with_hex_digit : goal.returns-then-begins_with_hex_digit
 returns-then-begins_with_hex_digit c = λ byte_escapes allow_nul.
@@ -60,13 +40,7 @@ returns-then-begins_with_hex_digit c = λ byte_escapes allow_nul.
     let size = length-take-le c.args.digits.len (drop 3 c.args.input.now) d.within in
     let after = rest_is _ (drop 3 c.args.input.now) c.args.digits.len same in
     let any = ap (list_any (λ n. n == 125)) (sym same) ∙ sym c.if-not-has_byte.ensures in
-    let right : first_passes is_wrong_start (drop 3 c.args.input.now) ≡ false = elim c.if-begins_with_byte.branch [
-      | then-begins_with_byte w ↦ absurd (true≢false (sym w.if-begins_with_byte.true ∙ (sym w.value-is ∙ c.if-begins_with_byte-2.false)))
-      | else-begins_with_byte w ↦
-          not_wrong (drop 3 c.args.input.now) (ap (first_passes (λ n. n == 125)) (sym same) ∙ (sym c.begins_with_byte.ensures ∙ w.if-begins_with_byte.false))
-          (ap (first_passes (λ n. n == 95)) (sym same)
-          ∙ (sym w.begins_with_byte-else-begins_with_byte.ensures ∙ (sym w.value-is ∙ c.if-begins_with_byte-2.false)))
-    ] in
+    let right = ap (first_passes is_wrong_start) (sym same) ∙ sym c.if-begins_wrongly.ensures in
     let digit : first_passes is_ascii_hexdigit (drop c.args.digits.len (drop 3 c.args.input.now)) ≡ true =
     ap (first_passes is_ascii_hexdigit) (sym after) ∙ sym c.if-begins_with_hex_digit.ensures in
     has_refusal _ _ c.in_text-then-begins_with_hex_digit.result
@@ -83,13 +57,7 @@ returns-else-begins_with_hex_digit c = λ byte_escapes allow_nul.
     let size = length-take-le c.args.digits.len (drop 3 c.args.input.now) d.within in
     let after = rest_is _ (drop 3 c.args.input.now) c.args.digits.len same in
     let any = ap (list_any (λ n. n == 125)) (sym same) ∙ sym c.if-not-has_byte.ensures in
-    let right : first_passes is_wrong_start (drop 3 c.args.input.now) ≡ false = elim c.if-begins_with_byte.branch [
-      | then-begins_with_byte w ↦ absurd (true≢false (sym w.if-begins_with_byte.true ∙ (sym w.value-is ∙ c.if-begins_with_byte-2.false)))
-      | else-begins_with_byte w ↦
-          not_wrong (drop 3 c.args.input.now) (ap (first_passes (λ n. n == 125)) (sym same) ∙ (sym c.begins_with_byte.ensures ∙ w.if-begins_with_byte.false))
-          (ap (first_passes (λ n. n == 95)) (sym same)
-          ∙ (sym w.begins_with_byte-else-begins_with_byte.ensures ∙ (sym w.value-is ∙ c.if-begins_with_byte-2.false)))
-    ] in
+    let right = ap (first_passes is_wrong_start) (sym same) ∙ sym c.if-begins_wrongly.ensures in
     let none : first_passes is_ascii_hexdigit (drop c.args.digits.len (drop 3 c.args.input.now)) ≡ false =
     ap (first_passes is_ascii_hexdigit) (sym after) ∙ sym c.if-begins_with_hex_digit.ensures in
     has_refusal _ _ c.in_text-else-begins_with_hex_digit.result
