@@ -1,6 +1,6 @@
 -- If all bytes of a step are hashes, the hashes continue after it; otherwise they end at the first
 -- other byte.
-use Rattle.std.proofs.Common.{◌≡◌, ℕ, zero, suc, ◌+◌, ◌-◌, ◌%◌, ◌^◌, ◌<◌, ◌≤◌, not, eqb, cond, map, List, drop, length, replicate, w8, refl, sym, ap, ◌∙◌, arith}
+use Rattle.std.proofs.Common.{◌≡◌, ℕ, zero, suc, ◌+◌, ◌%◌, ◌^◌, ◌<◌, ◌≤◌, not, eqb, cond, map, List, drop, length, replicate, w8, refl, sym, ap, ◌∙◌, arith}
 use Rattle.std.proofs.Math.Bool.{not-not}
 use Rattle.std.specs.List.{prefix_len}
 use lib.Count.{count_trailing_zeros}
