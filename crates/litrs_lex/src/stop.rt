@@ -1,8 +1,6 @@
 //! The item or quote after the plain characters of a body.
-ghost use Rattle.std.specs.Prelude.{◌≡◌, ◌≤◌, ◌==◌, length, Some, IfSome, IfOk, IfErr, IsTrue, IsFalse};
-ghost use Rattle.std.specs.List.{prefix_len};
-ghost use Rattle.std.specs.Str.{chars, IsCharBoundary};
-ghost use Rattle.litrs_base.specs.Characters.{line_feed, double_quote, backslash, is_blank};
+ghost use Rattle.std.specs.Prelude.{◌≡◌, ◌≤◌, ◌==◌, Some, IfSome, IfOk, IfErr, IsTrue, IsFalse, chars, IsCharBoundary};
+ghost use Rattle.litrs_base.specs.Characters.{double_quote, backslash};
 ghost use Rattle.litrs_base.specs.Text.{first_passes};
 ghost use Rattle.litrs_base.specs.declared.escape.Unescape.TheVariants.{Byte};
 ghost use Rattle.litrs_base.specs.declared.quotes.Switches.{Switches};
