@@ -260,14 +260,15 @@ fn unicode_escape_refusal(input: &str, digits: HexDigits) -> ParseError
         HasEscapeRefusal (switches true byte_escapes allow_nul) (chars input.now) result }
 {
     let inner = &input.as_bytes()[3..];
+    let after = &inner[digits.len..];
     let place = 3 + digits.len;
-    if !has_byte(inner, b'}') {
+    if !has_byte(after, b'}') {
         let kind = ParseErrorKind::UnterminatedUnicodeEscape;
         ParseError::in_text(input, Some(0..input.len()), kind)
     } else if begins_wrongly(inner) {
         let kind = ParseErrorKind::InvalidStartOfUnicodeEscape;
         ParseError::in_text(input, Some(3..4), kind)
-    } else if begins_with_hex_digit(&inner[digits.len..]) {
+    } else if begins_with_hex_digit(after) {
         let kind = ParseErrorKind::TooManyDigitInUnicodeEscape;
         ParseError::in_text(input, Some(place..place + 1), kind)
     } else {

@@ -21,7 +21,10 @@ pub fn is_inner_quote(bytes: &[u8], hashes: usize) -> bool
         ≡ (first_passes is_quote bytes.now && not (begins_with (raw_closing hashes) bytes.now)) }
 {
     match bytes {
-        [b'"', after @ ..] => hash_len(after) < hashes,
+        // The last hash is looked at first, because the quotes of a body mostly lack it.
+        [b'"', after @ ..] if hashes > 0 => {
+            after.len() < hashes || after[hashes - 1] != b'#' || hash_len(after) < hashes
+        }
         _ => false,
     }
 }

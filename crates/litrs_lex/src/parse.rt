@@ -10,7 +10,6 @@ ghost use Rattle.litrs_grammar.specs.Suffix.{is_suffix, is_ascii_symbol, suffix_
 
 use crate::{Run, run_end};
 use litrs_base::{IntegerBase, ParseError, ParseErrorKind, split_first_char};
-use memchr::memchr;
 
 /// Returns the number of decimal digits and underscores at the front of `input`: 4 for `1_0_a2`.
 // Not inlined, so that there is one copy of the search.
@@ -69,7 +68,7 @@ pub(crate) fn begins_with_byte(bytes: &[u8], byte: u8) -> bool
 pub(crate) fn has_byte(bytes: &[u8], byte: u8) -> bool
     ensures { result ≡ list_any (λ c. c == byte) bytes.now }
 {
-    memchr(byte, bytes).is_some()
+    bytes.contains(&byte)
 }
 
 /// Returns `true` if each character of `rest` may continue an identifier. Reads bytes while they

@@ -95,9 +95,13 @@ pub fn next_special_masked(bytes: &[u8], from: usize, what: Special, mask: Mask)
     let mut unread = from;
     if from < mask.end {
         let found = mask.bits >> (from - mask.start);
-        // Special bytes in a row are found by a branch, which does not wait for the shift.
+        // Special bytes at the next two places are found by branches, which do not wait for the
+        // shift.
         if found % 2 == 1 {
             return (from, mask);
+        }
+        if found % 4 == 2 {
+            return (from + 1, mask);
         }
         if found != 0 {
             return (from + found.trailing_zeros() as usize, mask);
