@@ -13,9 +13,9 @@ use Rattle.litrs_base.specs.Unescape.{unescaped_number, is_unescaped_char, is_un
 apart : ¬ ◌≡◌ {A = ℕ} 2 3
 apart same = cc
 
--- 2 is not a derivation if only 3 is one
-only_is_one : ¬ IsOnlyDerivation (λ (n : ℕ). n ≡ 3) 2
-only_is_one only = apart only.0
+-- 3 is the only number that equals 3
+only_is : IsOnlyDerivation (λ (n : ℕ). n ≡ 3) 3
+only_is = (refl, λ e same. same)
 
 -- 3 is not the only derivation if every number is one
 only_is_alone : ¬ IsOnlyDerivation (λ (n : ℕ). n ≡ n) 3

@@ -1,17 +1,18 @@
--- Lines and the reports on them, by computation. The printed digits of a number are not computed.
-use Rattle.std.specs.Prelude.{◌≡◌, ◌++◌, true, false, [], ◌∷◌, codes, refl}
+-- Lines and the reports on them, by computation. The digits of a number in base ten are not computed.
+use Rattle.std.specs.Prelude.{◌≡◌, ◌++◌, true, false, Some, None, [], ◌∷◌, codes, refl}
 use Rattle.std.proofs.Common.{inl, inr}
-use Rattle.std.specs.Fmt.{decimal}
+use Rattle.std.specs.Fmt.{decimal, digits}
 use Rattle.litrs_base.specs.declared.err.ParseErrorKind.TheVariants as kind
 use Rattle.litrs_base.specs.Refusal.{without_span, at_byte}
 use Rattle.litrs_base.specs.Numeral.{place_sum}
+use Rattle.litrs_grammar.specs.CharByte.{plain_char, escaped_char}
 use Rattle.litrs_grammar.specs.Integer.{integer_cut}
 use Rattle.litrs_grammar.specs.Escape.{simple_escape, hex_escape}
 use Rattle.litrs_grammar.specs.Quoted.{plain_item, escape_item}
-use Rattle.litrs_grammar.specs.Literal.{quoted_parts, raw_parts, a_bool, an_integer, a_string, a_byte_string, a_c_string}
+use Rattle.litrs_grammar.specs.Literal.{quoted_parts, raw_parts, a_bool, an_integer, a_float, a_char, a_byte, a_string, a_byte_string, a_c_string}
 use Rattle.litrs_grammar.proofs.Computing.{computing}
 use Rattle.litrs_lines.specs.Report.{value_text, literal_report, IsTextReport}
-use Rattle.litrs_lines.specs.Lines.{ended_parts, open_part, ended_parts_of, ended_lines, open_line, lines_of}
+use Rattle.litrs_lines.specs.Lines.{ended_parts, open_part, ended_parts_of, open_line, lines_of}
 
 -- Texts
 
@@ -25,6 +26,19 @@ integers : (literal_report (an_integer (integer_cut (codes "0xff80")))
 unfolding computing integer_cut place_sum
 integers = (refl, refl)
 
+floats : (literal_report (a_float (record { integer = codes "3"; fraction = Some (codes "14"); exponent = []; suffix = codes "f33" }))
+    ≡ codes "float int=3 frac=14 exp= suffix=f33")
+    × (literal_report (a_float (record { integer = codes "3"; fraction = None; exponent = codes "e2"; suffix = codes "e5" }))
+    ≡ codes "float int=3 frac=- exp=e2 suffix=e5")
+unfolding computing
+floats = (refl, refl)
+
+characters : (literal_report (a_char (record { item = plain_char 0x1F98A; suffix = codes "good_boy" }))
+    ≡ codes "char value=1f98a suffix=good_boy")
+    × (literal_report (a_byte (record { item = escaped_char (hex_escape 70 70); suffix = [] })) ≡ codes "byte value=ff suffix=")
+unfolding computing digits
+characters = (refl, refl)
+
 strings : (literal_report (a_string (quoted_parts (record { items = plain_item 97 ∷ escape_item (simple_escape 116) ∷ plain_item 98 ∷ []; suffix = codes "x" })))
     ≡ codes "string raw=no suffix=x value=610962")
     × (literal_report (a_byte_string (raw_parts (record { hash_count = 0; body = codes "\\n"; suffix = [] })))
@@ -36,9 +50,8 @@ strings = (refl, refl, refl)
 
 refusals : IsTextReport (codes "") (codes "error input is empty")
     × IsTextReport (codes "0;") (codes "error unexpected character (at " ++ decimal 1 ++ codes ".." ++ decimal 2 ++ codes ")")
-    × IsTextReport (codes "foo") (codes "error invalid literal")
 unfolding computing
-refusals = (inr (without_span kind.Empty, refl, refl), inr (at_byte 1 kind.UnexpectedChar, refl, refl), inr (without_span kind.InvalidLiteral, refl, refl))
+refusals = (inr (without_span kind.Empty, refl, refl), inr (at_byte 1 kind.UnexpectedChar, refl, refl))
 
 -- Values
 
@@ -53,14 +66,6 @@ value-none = refl
 -- without parts, no part has ended, and no part is open
 parts-none : (ended_parts [] ≡ []) × (open_part [] ≡ [])
 parts-none = (refl, refl)
-
-lines-ended : ended_lines (codes "a\n\nb") ≡ codes "a" ∷ [] ∷ []
-unfolding ended_parts_of
-lines-ended = refl
-
-lines-open : open_line (codes "a\n\nb") ≡ codes "b"
-unfolding open_line
-lines-open = refl
 
 lines-last_open : lines_of (codes "a\n\nb") ≡ codes "a" ∷ [] ∷ codes "b" ∷ []
 unfolding lines_of ended_parts_of open_line

@@ -1,7 +1,8 @@
 -- Trees of tokens, and which of them are bools, by computation.
-use Rattle.std.specs.Prelude.{◌≡◌, ◌≢◌, ℕ, ◌+◌, List, [], ◌∷◌, IsTrue, IsFalse, Ok, Err, codes, refl}
+use Prim.Native.String.{String}
+use Rattle.std.specs.Prelude.{◌≡◌, ◌≢◌, ◌⊎◌, ℕ, ◌+◌, List, [], ◌∷◌, IsTrue, IsFalse, true, false, Ok, Err, codes, refl}
 use Rattle.std.specs.Str.{chars}
-use Rattle.std.proofs.Common.{arith}
+use Rattle.std.proofs.Common.{arith, inr}
 use Rattle.litrs.specs.declared.bool.BoolLit.TheVariants.{False, True}
 use Rattle.litrs_grammar.specs.Literal.{bool_literal, literal_kind, IsLiteral}
 use Rattle.litrs_token.specs.declared.err.InvalidToken.{InvalidToken}
@@ -16,12 +17,13 @@ use Rattle.litrs_token.specs.declared.tree.TokenTree.TheOpen as tree
 use Rattle.litrs_token.specs.declared.tree.TokenTree.TheVariants as variant
 use Rattle.litrs_token.specs.CompileError.{IsMessageGroup, IsCompileError}
 use Rattle.litrs_token.specs.BoolTree.{text_of, is_bool_ident, IsBoolAnswer}
-use Rattle.litrs_token.specs.Errors.{invalid_span, invalid_text}
+use Rattle.litrs_token.specs.Conversion.{IsWantedKind, IsWanted}
+use Rattle.litrs_token.specs.Errors.{mismatch, invalid_span, invalid_text}
 use Rattle.litrs_token.specs.LiteralToken.{token_kind, IsLiteralToken}
-use Rattle.litrs_token.specs.Mismatch.{tree_mismatch}
+use Rattle.litrs_token.specs.Mismatch.{actual_kind, literal_mismatch}
 use Rattle.litrs_token.specs.Place.{Place, call_site}
 use Rattle.litrs_token.specs.StringToken.{string_token, IsStringOf}
-use Rattle.litrs_token.specs.Tree.{Shape, shape_of, AreAlike, group_delimiter, group_stream, group_span}
+use Rattle.litrs_token.specs.Tree.{Shape, shape_of, tree_span, AreAlike, group_delimiter, group_stream, group_span}
 
 -- Tokens at a place
 
@@ -42,10 +44,8 @@ literal text kind start = tree.Literal (record { text = text; kind = kind; span 
 
 alike :
     AreAlike (ident (codes "a") 0) (ident (codes "a") 5)
-    × AreAlike (punct 43 Alone 0) (punct 43 Alone 5)
-    × AreAlike (literal (codes "1") token.IntegerLit 0) (literal (codes "1") token.IntegerLit 5)
     × ((g : Group) → AreAlike (tree.Group g) (tree.Group g))
-alike = (refl, (refl, refl), (refl, refl), λ g. (refl, refl))
+alike = (refl, λ g. (refl, refl))
 
 not_alike :
     ¬ AreAlike (ident (97 ∷ []) 0) (ident (97 ∷ 98 ∷ []) 0)
@@ -54,7 +54,6 @@ not_alike :
     × ¬ AreAlike (literal (49 ∷ []) token.IntegerLit 0) (literal (49 ∷ 50 ∷ []) token.IntegerLit 0)
     × ¬ AreAlike (literal (49 ∷ []) token.IntegerLit 0) (literal (49 ∷ []) token.FloatLit 0)
     × ¬ AreAlike (ident (97 ∷ []) 0) (literal (97 ∷ []) token.IntegerLit 0)
-    × ¬ AreAlike (literal (97 ∷ []) token.IntegerLit 0) (ident (97 ∷ []) 0)
     × ¬ AreAlike (punct 97 Alone 0) (ident (97 ∷ []) 0)
 not_alike = (
   λ same. cc,
@@ -62,7 +61,6 @@ not_alike = (
   λ same. let spacing = same.1 in cc,
   λ same. let text = same.0 in cc,
   λ same. let kind = same.1 in cc,
-  λ same. same,
   λ same. same,
   λ same. same,
 )
@@ -81,6 +79,51 @@ texts :
     × ((g : Group) → text_of (tree.Group g) ≡ [])
 texts = (refl, refl, refl, λ g. refl)
 
+-- Kinds of trees
+
+kinds :
+    ((g : Group) → actual_kind (tree.Group g) ≡ token.Group)
+    × (actual_kind (ident [] 0) ≡ token.Ident)
+    × (actual_kind (punct 43 Alone 0) ≡ token.Punct)
+    × (actual_kind (literal [] token.FloatLit 0) ≡ token.FloatLit)
+kinds = (λ g. refl, refl, refl, refl)
+
+-- Messages
+
+-- what is printed if a token of the first kind was expected, and one of the second is there
+abbrev Says : (expected actual : TokenKind) → String → Type 0
+Says expected actual message = invalid_text (mismatch expected actual call_site) ≡ codes message
+
+messages :
+    Says token.IntegerLit token.Punct "expected an integer literal (e.g. `27`), but found a punctuation character"
+    × Says token.Literal token.Ident "expected a literal, but found an identifier"
+    × Says token.BoolLit token.Group "expected a bool literal (`true` or `false`), but found a group"
+    × Says token.ByteLit token.CharLit "expected a byte literal (e.g. `b'r'`), but found a character literal (e.g. `'P'`)"
+    × Says token.FloatLit token.StringLit "expected a float literal (e.g. `3.14`), but found a string literal (e.g. \"Ferris\")"
+    × Says token.ByteStringLit token.CStringLit "expected a byte string literal (e.g. `b\"fox\"`), but found a C string literal (e.g. c\"Ferris\")"
+messages = (refl, refl, refl, refl, refl, refl)
+
+mismatches :
+    literal_mismatch token.FloatLit (record { text = []; kind = token.IntegerLit; span = place 0 })
+    ≡ mismatch token.FloatLit token.IntegerLit (place 0)
+mismatches = refl
+
+-- Trees that are expected
+
+wanted :
+    ((wanted kind : TokenKind) → IsWantedKind wanted kind → (kind ≡ wanted) ⊎ (wanted ≡ token.Literal))
+    × IsWanted token.Literal (literal [] token.FloatLit 0)
+    × IsWanted token.Literal (ident (codes "true") 0)
+wanted = (λ wanted kind is. is, inr refl, (refl, refl))
+
+-- Bools
+
+bool_idents :
+    (is_bool_ident (ident (codes "true") 0) ≡ true)
+    × (is_bool_ident (ident (codes "a") 0) ≡ false)
+    × (is_bool_ident (literal (codes "true") token.StringLit 0) ≡ false)
+bool_idents = (refl, refl, refl)
+
 -- Facts about a bool, or about the error in its place
 
 bool_answers : (t : TokenTree) →
@@ -89,7 +132,7 @@ bool_answers : (t : TokenTree) →
 bool_answers t = (λ is. is, λ is. is)
 
 bool_errors : (t : TokenTree) (e : InvalidToken) → IsBoolAnswer t (Err e) →
-    IsFalse (is_bool_ident (shape_of t)) × (e ≡ tree_mismatch token.BoolLit t)
+    IsFalse (is_bool_ident (shape_of t)) × (e ≡ mismatch token.BoolLit (actual_kind (shape_of t)) (tree_span t))
 bool_errors t e is = is
 
 -- The message of an error is one string between braces, of what is printed of the error.
@@ -99,7 +142,7 @@ message : (e : InvalidToken) (group : Group) (is : IsMessageGroup e group) →
     × (group_span group ≡ invalid_span e)
     × (chars is.message.text ≡ string_token (chars (invalid_text e)))
     × IsStringOf (chars is.message.text) (invalid_text e)
-    × (is.message.span ≡ call_site)
+    × (is.message.span ≡ record { start = 0; end = 0 })
 message e group is = (is.delimiter, is.stream, is.span, is.text, is.value, is.message_span)
 
 -- It is given to a call of `compile_error`, whose trees have the span of the error.

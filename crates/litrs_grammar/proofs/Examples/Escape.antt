@@ -7,7 +7,7 @@ use Rattle.litrs_base.specs.declared.err.ParseErrorKind.TheVariants as kind
 use Rattle.litrs_base.specs.Refusal.{Refusal, at_byte, spanning}
 use Rattle.litrs_base.specs.declared.quotes.Switches.{Switches}
 use Rattle.litrs_base.specs.Quotes.{char_switches, byte_switches, string_switches, byte_string_switches, c_string_switches}
-use Rattle.litrs_grammar.specs.Escape.{Escape, simple_escape, hex_escape, unicode_escape, escape_text, escape_value, value_bytes, is_escape, escape_refusal}
+use Rattle.litrs_grammar.specs.Escape.{Escape, simple_escape, hex_escape, unicode_escape, escape_text, escape_value, value_bytes, is_escape, escape_at_front, escape_refusal}
 use Rattle.litrs_grammar.proofs.Computing.{computing}
 
 -- an escape under these switches, with its text and its value
@@ -62,6 +62,15 @@ bytes :
     value_bytes (Unicode 0x1F602) ≡ 0xF0 ∷ 0x9F ∷ 0x98 ∷ 0x82 ∷ []
 unfolding computing
 bytes = refl
+
+-- The escape at the front of a text
+
+front :
+    (escape_at_front (codes "\\nb") ≡ simple_escape 110)
+    × (escape_at_front (codes "\\x41b") ≡ hex_escape 52 49)
+    × (escape_at_front (codes "\\u{41}b") ≡ unicode_escape (codes "41"))
+unfolding computing
+front = (refl, refl, refl)
 
 -- Texts that the grammar allows, and texts that it does not
 

@@ -1,14 +1,14 @@
 -- Suffixes, integers and their types by computation: forms, values, where a text is cut, and each row of the table of
 -- refusals.
 use Prim.Native.String.{String}
-use Rattle.std.specs.Prelude.{◌≡◌, ℕ, true, false, Some, None, codes, refl}
+use Rattle.std.specs.Prelude.{◌≡◌, ℕ, pos, neg_ℤ, true, false, Some, None, codes, refl}
 use Rattle.litrs_base.specs.declared.err.ParseErrorKind.TheVariants as kind
 use Rattle.litrs_base.specs.declared.integer.IntegerBase.{IntegerBase}
 use Rattle.litrs_base.specs.declared.integer.IntegerBase.TheVariants as base
 use Rattle.litrs_base.specs.declared.integer.IntegerType.{IntegerType}
 use Rattle.litrs_base.specs.declared.integer.IntegerType.TheVariants as type
 use Rattle.litrs_base.specs.Refusal.{Refusal, without_span, at_byte, spanning}
-use Rattle.litrs_base.specs.Numeral.{numeral, greatest_of}
+use Rattle.litrs_base.specs.Numeral.{numeral, least_of, greatest_of}
 use Rattle.litrs_base.specs.IntegerTypes.{type_name}
 use Rattle.litrs_base.specs.Base.{is_digit}
 use Rattle.litrs_grammar.specs.Suffix.{is_suffix, suffix_refusal}
@@ -31,9 +31,10 @@ Refused text refusal = integer_refusal (codes text) ≡ Some refusal
 abbrev Accepted : String → Type 0
 Accepted text = integer_refusal (codes text) ≡ None
 
--- the name of a type, and its greatest number
-abbrev IsType : IntegerType → String → ℕ → Type 0
-IsType type name greatest = (type_name type ≡ codes name) × (greatest_of type ≡ greatest)
+-- the name of a type, its least number without the sign, and its greatest number
+abbrev IsType : IntegerType → String → (least greatest : ℕ) → Type 0
+IsType type name least greatest =
+    (type_name type ≡ codes name) × (least_of type ≡ neg_ℤ (pos least)) × (greatest_of type ≡ greatest)
 
 -- Suffixes
 
@@ -149,30 +150,30 @@ rows-no_digits = (refl, refl)
 -- Types
 
 types :
-    IsType type.U8 "u8" 255
-    × IsType type.U16 "u16" 65535
-    × IsType type.U32 "u32" 4294967295
-    × IsType type.U64 "u64" 18446744073709551615
-    × IsType type.U128 "u128" 340282366920938463463374607431768211455
-    × IsType type.Usize "usize" 18446744073709551615
-    × IsType type.I8 "i8" 127
-    × IsType type.I16 "i16" 32767
-    × IsType type.I32 "i32" 2147483647
-    × IsType type.I64 "i64" 9223372036854775807
-    × IsType type.I128 "i128" 170141183460469231731687303715884105727
-    × IsType type.Isize "isize" 9223372036854775807
+    IsType type.U8 "u8" 0 255
+    × IsType type.U16 "u16" 0 65535
+    × IsType type.U32 "u32" 0 4294967295
+    × IsType type.U64 "u64" 0 18446744073709551615
+    × IsType type.U128 "u128" 0 340282366920938463463374607431768211455
+    × IsType type.Usize "usize" 0 18446744073709551615
+    × IsType type.I8 "i8" 128 127
+    × IsType type.I16 "i16" 32768 32767
+    × IsType type.I32 "i32" 2147483648 2147483647
+    × IsType type.I64 "i64" 9223372036854775808 9223372036854775807
+    × IsType type.I128 "i128" 170141183460469231731687303715884105728 170141183460469231731687303715884105727
+    × IsType type.Isize "isize" 9223372036854775808 9223372036854775807
 unfolding computing
 types = (
-  (refl, refl),
-  (refl, refl),
-  (refl, refl),
-  (refl, refl),
-  (refl, refl),
-  (refl, refl),
-  (refl, refl),
-  (refl, refl),
-  (refl, refl),
-  (refl, refl),
-  (refl, refl),
-  (refl, refl),
+  (refl, refl, refl),
+  (refl, refl, refl),
+  (refl, refl, refl),
+  (refl, refl, refl),
+  (refl, refl, refl),
+  (refl, refl, refl),
+  (refl, refl, refl),
+  (refl, refl, refl),
+  (refl, refl, refl),
+  (refl, refl, refl),
+  (refl, refl, refl),
+  (refl, refl, refl),
 )
