@@ -6,9 +6,9 @@ ghost use Rattle.litrs_grammar.specs.Float.{is_period};
 ghost use Rattle.litrs.specs.FloatLiteral.{float_parts};
 ghost use Rattle.litrs.specs.IntegerLiteral.{integer_parts};
 ghost use Rattle.litrs.specs.LiteralDerivation.{derivation};
-ghost use Rattle.litrs_prefix.specs.Prefix.{is_of_suffix, ends_suffix, is_quote_or_hash, ends_bool, keeps_period, gives_period, ends_integer, is_bare, ends_float, may_follow};
+ghost use Rattle.litrs_prefix.specs.Prefix.{is_of_suffix, ends_suffix, ends_bool, keeps_period, gives_period, ends_integer, is_bare, ends_float, may_follow};
 
-use crate::name::{begins_name, is_empty};
+use crate::name::{begins_name, continues_name, is_empty};
 use litrs::{FloatLit, IntegerLit, Literal};
 use litrs_base::{begins_with_digit, split_first_char};
 use unicode_ident::is_xid_continue;
@@ -35,10 +35,7 @@ pub(crate) fn ends_suffix(suffix: &str, rest: &str) -> bool
     ensures { result ≡ ends_suffix (chars suffix.now) (chars rest.now) }
 {
     let none = is_empty(suffix);
-    match split_first_char(rest) {
-        Some((c, _)) => !is_of_suffix(none, c),
-        None => true,
-    }
+    !matches!(split_first_char(rest), Some((c, _)) if is_of_suffix(none, c))
 }
 
 /// Returns `true` if `c` would be part of the suffix, or begin one if there is `none`.
@@ -56,17 +53,7 @@ fn is_of_suffix(none: bool, c: char) -> bool
 pub(crate) fn ends_bool(rest: &str) -> bool
     ensures { result ≡ ends_bool (chars rest.now) }
 {
-    match split_first_char(rest) {
-        Some((c, _)) => !is_xid_continue(c) && !is_quote_or_hash(c),
-        None => true,
-    }
-}
-
-/// Returns `true` if `c` is `"`, `'` or `#`.
-fn is_quote_or_hash(c: char) -> bool
-    ensures { result ≡ is_quote_or_hash c }
-{
-    c == '"' || c == '\'' || c == '#'
+    !continues_name(rest) && !matches!(split_first_char(rest), Some(('"' | '\'' | '#', _)))
 }
 
 /// Returns `true` if `lit` ends where `rest` follows it.
@@ -88,30 +75,21 @@ pub(crate) fn ends_float(lit: &FloatLit<&str>, rest: &str) -> bool
 fn is_bare(lit: &FloatLit<&str>) -> bool
     ensures { result ≡ is_bare (float_parts lit.now).fraction }
 {
-    match lit.fractional_part() {
-        Some(fraction) => is_empty(fraction),
-        None => false,
-    }
+    matches!(lit.fractional_part(), Some(fraction) if is_empty(fraction))
 }
 
 /// Returns `true` if `text` starts with a period.
 pub(crate) fn begins_with_period(text: &str) -> bool
     ensures { result ≡ first_passes is_period (chars text.now) }
 {
-    match split_first_char(text) {
-        Some((c, _)) => c == '.',
-        None => false,
-    }
+    matches!(split_first_char(text), Some((c, _)) if c == '.')
 }
 
 /// Returns `true` if `text` starts with a period that an integer before it would take.
 fn gives_period(text: &str) -> bool
     ensures { result ≡ gives_period (chars text.now) }
 {
-    match split_first_char(text) {
-        Some((c, after)) => c == '.' && !keeps_period(after),
-        None => false,
-    }
+    matches!(split_first_char(text), Some((c, after)) if c == '.' && !keeps_period(after))
 }
 
 /// Returns `true` if a period before `text` does not belong to a number, as `text` starts with
@@ -119,8 +97,5 @@ fn gives_period(text: &str) -> bool
 pub(crate) fn keeps_period(text: &str) -> bool
     ensures { result ≡ keeps_period (chars text.now) }
 {
-    match split_first_char(text) {
-        Some((c, _)) => c == '.' || begins_name(c),
-        None => false,
-    }
+    matches!(split_first_char(text), Some((c, _)) if c == '.' || begins_name(c))
 }

@@ -1,10 +1,8 @@
 //! The texts to which more text may give a literal at the front, or another one.
-ghost use Rattle.std.specs.Prelude.{◌≡◌, ◌↔◌, ◌∷◌, ◌++◌, [], ℕ, List, IsTrue, IfSome, IfNone};
+ghost use Rattle.std.specs.Prelude.{◌↔◌, IsTrue};
 ghost use Rattle.std.specs.Str.{chars};
-ghost use Rattle.litrs_base.specs.Characters.{period};
 ghost use Rattle.litrs_prefix.specs.GoesOn.{IsBareInteger, IsIntegerAndPeriod, PrefixGoesOn};
 
-use crate::follow::begins_with_period;
 use crate::name::is_empty;
 use litrs::{IntegerLit, goes_on};
 
@@ -19,11 +17,7 @@ use litrs::{IntegerLit, goes_on};
 pub fn prefix_goes_on(text: &str) -> bool
     ensures { IsTrue result ↔ PrefixGoesOn (chars text.now) }
 {
-    if goes_on(text) {
-        true
-    } else {
-        is_integer_and_period(text)
-    }
+    goes_on(text) || is_integer_and_period(text)
 }
 
 /// Returns `true` if `text` is an integer without suffix and one period. It is a float, or none, as
@@ -31,29 +25,9 @@ pub fn prefix_goes_on(text: &str) -> bool
 fn is_integer_and_period(text: &str) -> bool
     ensures { IsTrue result ↔ IsIntegerAndPeriod (chars text.now) }
 {
-    match without_period(text) {
+    match text.strip_suffix(".") {
         Some(front) => is_integer_without_suffix(front),
         None => false,
-    }
-}
-
-/// Returns the part of `text` before the period that ends it, or `None` if none does.
-fn without_period(text: &str) -> Option<&str>
-    ensures some { IfSome result (λ front. chars front.now ++ period ∷ [] ≡ chars text.now) }
-    ensures none { IfNone result ((front : List ℕ) → front ++ period ∷ [] ≡ chars text.now → ⊥) }
-{
-    if text.is_empty() {
-        return None;
-    }
-    match text.split_at_checked(text.len() - 1) {
-        Some((front, last)) => {
-            if begins_with_period(last) {
-                Some(front)
-            } else {
-                None
-            }
-        }
-        None => None,
     }
 }
 

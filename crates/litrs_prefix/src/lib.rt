@@ -94,10 +94,7 @@ impl MalformedPrefix {
         requires { start + self.now.len < 2 ^ 64 }
         ensures { result ≡ marked_at start self.now }
     {
-        match self.error.char_span() {
-            Some(span) => span,
-            None => start..start + self.len,
-        }
+        self.error.char_span().unwrap_or(start..start + self.len)
     }
 }
 
@@ -165,8 +162,7 @@ pub fn next_boundary(text: &str, start: usize) -> usize
     ensures end { length text.now ≤ start → result ≡ start }
     ensures rest { chars (drop result text.now) ≡ drop 1 (chars (drop start text.now)) }
 {
-    let (_, rest) = text.split_at(start);
-    match split_first_char(rest) {
+    match split_first_char(&text[start..]) {
         Some((_, after)) => text.len() - after.len(),
         None => start,
     }
@@ -194,8 +190,7 @@ pub fn parse_prefix_at(
     ensures malformed { IfErr result (IsMovedBy start (chars (drop start source.now))) }
     ensures marks { IfErr result (IsMarkedAt start source.now) }
 {
-    let (_, text) = source.split_at(start);
-    match parse_prefix(alloc, text) {
+    match parse_prefix(alloc, &source[start..]) {
         Ok(found) => Ok(found),
         Err(malformed) => Err(MalformedPrefix {
             error: malformed.error.offset_span(start),

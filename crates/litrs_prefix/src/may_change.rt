@@ -3,7 +3,6 @@ ghost use Rattle.std.specs.Prelude.{◌≡◌, IsTrue, IsFalse};
 ghost use Rattle.std.specs.Str.{chars};
 ghost use Rattle.litrs_prefix.specs.MayChange.{AnswerStays, AnswerChanges, OpensNever, OpensLater, is_open_prefix, is_open_front, is_quoted_line_feed};
 ghost use Rattle.litrs_prefix.specs.Opens.{opens};
-ghost use Rattle.litrs_prefix.specs.Prefix.{HasNoPrefix};
 
 use crate::extent::prefix_len;
 use crate::going_on::prefix_goes_on;
@@ -30,7 +29,9 @@ pub fn prefix_may_change(text: &str) -> bool
     }
     match prefix_len(text) {
         Some(len) => len == text.len(),
-        None => malformed_may_change(text),
+        None => {
+            prefix_goes_on(text) || (is_empty(after_opened(text)) || is_quoted_line_feed(text))
+        }
     }
 }
 
@@ -66,20 +67,6 @@ fn is_open_prefix(text: &str) -> bool
         Some((c, rest)) => c == 'r' && is_empty(after_hashes(rest)),
         None => true,
     }
-}
-
-/// Returns `true` if the answer for `text`, at whose front a malformed literal is, changes with
-/// more text.
-fn malformed_may_change(text: &str) -> bool
-    requires opens { IsTrue (opens (chars text.now)) }
-    requires none { HasNoPrefix (chars text.now) }
-    ensures stays { IsFalse result → AnswerStays (chars text.now) }
-    ensures changes { IsTrue result → AnswerChanges (chars text.now) }
-{
-    if prefix_goes_on(text) {
-        return true;
-    }
-    is_empty(after_opened(text)) || is_quoted_line_feed(text)
 }
 
 /// Returns `true` if `text` is `'` or `b'`, and a line feed.

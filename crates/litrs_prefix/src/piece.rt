@@ -6,7 +6,7 @@ ghost use Rattle.litrs_base.specs.declared.quotes.CharKind.TheVariants.{Char as 
 ghost use Rattle.litrs_base.specs.Quotes.{quoted_front, raw_front};
 ghost use Rattle.litrs_grammar.specs.CharByte.{IsCharLiteral};
 ghost use Rattle.litrs_grammar.specs.Float.{IsFloatOf};
-ghost use Rattle.litrs_grammar.specs.Integer.{IsIntegerOf, is_e};
+ghost use Rattle.litrs_grammar.specs.Integer.{IsIntegerOf};
 ghost use Rattle.litrs_grammar.specs.LiteralRefusals.{begins_float};
 ghost use Rattle.litrs_grammar.specs.Quoted.{IsQuotedLiteral};
 ghost use Rattle.litrs_grammar.specs.Raw.{IsRawLiteral};
@@ -53,17 +53,7 @@ fn number_follows(front: &str, rest: &str) -> Option<bool>
 fn begins_float(front: &str) -> bool
     ensures { result ≡ begins_float (chars front.now) }
 {
-    match split_first_char(after_digits(front)) {
-        Some((c, _)) => c == '.' || is_e(c),
-        None => false,
-    }
-}
-
-/// Returns `true` if `c` is `e` or `E`.
-pub fn is_e(c: char) -> bool
-    ensures { result ≡ is_e c }
-{
-    c == 'e' || c == 'E'
+    matches!(split_first_char(after_digits(front)), Some((c, _)) if c == '.' || c == 'e' || c == 'E')
 }
 
 /// Like [`follows`], for an integer.

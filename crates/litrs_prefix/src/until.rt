@@ -52,7 +52,7 @@ pub fn parse_until<'a>(
         (before_delimiter (chars delimiters.now) (chars (drop start source.now)))) }
     ensures marks { IfErr result (IsMarkedAt start source.now) }
 {
-    let (_, text) = source.split_at(start);
+    let text = &source[start..];
     let rest = from_delimiter(text, delimiters);
     let front = before(text, rest);
     match Literal::parse(alloc, front) {
@@ -70,8 +70,7 @@ fn before<'a>(text: &'a str, rest: &str) -> &'a str
     ensures { chars result.now ≡ drop_trailing_whitespace
         (take (length (chars text.now) - length (chars rest.now)) (chars text.now)) }
 {
-    let len = text.len() - rest.len();
-    let (front, _) = text.split_at(len);
+    let (front, _) = text.split_at(text.len() - rest.len());
     front.trim_end()
 }
 

@@ -7,11 +7,11 @@ use Rattle.litrs_prefix.specs.Prefix.{ends_bool}
 use Rattle.litrs_prefix.proofs.Runs.{bool_front}
 use Rattle.litrs_prefix.proofs.extent.bool_extent.Goals as goal
 
-pub split_at-requires : goal.split_at-requires
-split_at-requires c = let is = c.in-Some.ensures.some in (bool_front c.args.text.now is.0 c.in-Some.len c.utf8.text is.1 is.2).0
+pub range_from-requires : goal.range_from-requires
+range_from-requires c = λ _. let is = c.in-Some.ensures.some in (bool_front c.args.text.now is.0 c.in-Some.len c.utf8.text is.1 is.2).0
 
-pub returns-then-ends_bool-clause-literal : goal.returns-then-ends_bool-clause-literal
-returns-then-ends_bool-clause-literal c =
+pub returns-in-Some : goal.returns-in-Some
+returns-in-Some c =
     let is = c.in-Some.ensures.some in
     let front = bool_front c.args.text.now is.0 c.in-Some.len c.utf8.text is.1 is.2 in
     record {
@@ -21,6 +21,6 @@ returns-then-ends_bool-clause-literal c =
         front = bool_text is.0;
         spells = front.1;
         literal = refl;
-        follows = ap (λ l. ends_bool (chars l)) (sym c.split_at.ensures.back) ∙ (sym c.ends_bool.ensures ∙ c.if-ends_bool.true);
+        follows = ap (λ l. ends_bool (chars l)) (sym c.range_from.ensures.value) ∙ (sym c.ends_bool.ensures ∙ c.if-ends_bool.true);
       };
     }

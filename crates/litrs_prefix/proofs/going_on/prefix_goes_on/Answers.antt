@@ -1,12 +1,12 @@
 -- The text begins a literal, or is such an integer.
-use Rattle.std.proofs.Common.{refl, sym, ◌∙◌, inl, inr}
+use Rattle.std.proofs.Common.{sym, ◌∙◌, inl, inr}
 use Rattle.std.specs.Str.{chars}
 use Rattle.std.proofs.lemmas.Bool.{true≢false}
 use Rattle.litrs_prefix.proofs.MoreText.{goes_on_either, begins_goes_on, period_goes_on}
 use Rattle.litrs_prefix.proofs.going_on.prefix_goes_on.Goals as goal
 
 pub returns-then-goes_on : goal.returns-then-goes_on
-returns-then-goes_on c = (λ _. begins_goes_on (chars c.args.text.now) (c.goes_on.ensures.0 c.if-goes_on.true), λ _. refl)
+returns-then-goes_on c = (λ _. begins_goes_on (chars c.args.text.now) (c.goes_on.ensures.0 c.if-goes_on.true), λ _. c.if-goes_on.true)
 
 pub returns-else-goes_on : goal.returns-else-goes_on
 returns-else-goes_on c = (

@@ -14,4 +14,4 @@ returns c =
     c.hash_len-hashes.ensures.len ∙ (ap hash_len c.as_bytes.ensures.value ∙ sym (prefix_len-chars is_hash text hash_is_ascii c.utf8.text)) in
     c.after_closing.ensures
     ∙ (ap (λ (n : ℕ). after_closing n (chars c.after_first.result.now)) count
-    ∙ ap (after_closing (hash_len (chars text))) (c.after_first.ensures ∙ ap (drop 1) c.after_hashes.ensures.rest))
+    ∙ ap (after_closing (hash_len (chars text))) (c.after_first.ensures ∙ ap (drop 1) c.after_hashes.ensures))

@@ -4,11 +4,8 @@ use Rattle.std.specs.Str.{chars}
 use Rattle.unicode_ident.specs.Ident.{is_xid_continue}
 use Rattle.litrs_base.proofs.ListTests.{if_true}
 use Rattle.litrs_prefix.specs.Opens.{after_run}
-use Rattle.litrs_prefix.proofs.Ends.{shorter, after_first}
+use Rattle.litrs_prefix.proofs.Ends.{after_first}
 use Rattle.litrs_prefix.proofs.name.after_any_run.Goals as goal
-
-pub loop-c-smaller : goal.loop-c-smaller
-loop-c-smaller c = shorter c.loop-c.rest.now c.in-Some.c c.in-Some.after.now c.in-Some.ensures.bytes
 
 pub loop-c-preserved : goal.loop-c-preserved
 loop-c-preserved c =

@@ -3,8 +3,8 @@ use Rattle.std.proofs.Common.{List, ℕ, ◌++◌, sym, ap, ◌∙◌, append_as
 use Rattle.std.specs.Prelude.{encode_utf8}
 use Rattle.litrs_prefix.proofs.name.after_name.Goals as goal
 
-pub returns-then-begins_name-clause-end : goal.returns-then-begins_name-clause-end
-returns-then-begins_name-clause-end c =
+pub returns-in-Some-clause-end : goal.returns-in-Some-clause-end
+returns-in-Some-clause-end c =
     let first = encode_utf8 c.in-Some.c in
     let end = c.after_run.ensures.end in (
       first ++ end.0,

@@ -5,8 +5,8 @@ use Rattle.litrs_prefix.proofs.Delimiters.{trimmed, before_is}
 use Rattle.litrs_prefix.proofs.MeantEnds.{ends_at}
 use Rattle.litrs_prefix.proofs.until.before.Goals as goal
 
-pub overflow_sub-len : goal.overflow_sub-len
-overflow_sub-len c = (ends_at c.args.text.now c.args.rest.now c.requires.0 c.utf8.text c.utf8.rest c.requires.1).within
+pub overflow_sub-text : goal.overflow_sub-text
+overflow_sub-text c = (ends_at c.args.text.now c.args.rest.now c.requires.0 c.utf8.text c.utf8.rest c.requires.1).within
 
 pub split_at-requires : goal.split_at-requires
 split_at-requires c = (ends_at c.args.text.now c.args.rest.now c.requires.0 c.utf8.text c.utf8.rest c.requires.1).boundary
