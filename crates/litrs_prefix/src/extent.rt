@@ -1,18 +1,10 @@
 //! The extent of the literal at the front of a text, valid or malformed.
-ghost use Rattle.std.specs.Prelude.{◌<◌, drop, take, IsTrue, IfOk, IfErr, IfSome, IfNone};
-ghost use Rattle.std.specs.Str.{chars, IsCharBoundary};
-ghost use Rattle.litrs_grammar.specs.Literal.{Derivation};
-ghost use Rattle.litrs_prefix.specs.Ends.{IsOnlyRest};
-ghost use Rattle.litrs_prefix.specs.Extent.{IsLiteralLen, IsMalformedLen, IsRead};
-ghost use Rattle.litrs_prefix.specs.Meant.{after_opened, IsMeant};
-ghost use Rattle.litrs_prefix.specs.Opens.{opens};
-ghost use Rattle.litrs_prefix.specs.Prefix.{HasPrefix, HasNoPrefix};
+ghost use Rattle.litrs_prefix.specs.Words.{◌<◌, drop, take, IsTrue, IfOk, IfErr, IfSome, IfNone, chars, IsCharBoundary, Derivation, IsOnlyRest, IsLiteralLen, IsMalformedLen, IsRead, after_opened, IsMeant, opens, HasPrefix, HasNoPrefix};
 
-use crate::follow::ends_bool;
+use crate::follow::{ends_bool, follows};
 use crate::malformed::after_opened;
 use crate::next_boundary;
 use crate::opening::{bool_len, opens};
-use crate::piece::follows;
 use crate::plain::{char_extent, number_extent, quoted_extent, raw_extent};
 use litrs_base::{CharKind, begins_with_digit};
 use litrs_lex::Front;
@@ -92,17 +84,10 @@ fn read_once(text: &str) -> Extent
         Front::Byte => char_extent(text, 2, CharKind::Byte),
         Front::Quoted(kind) => quoted_extent(text, kind),
         Front::Raw(kind) => raw_extent(text, kind),
-        _ => bool_extent(text),
-    }
-}
-
-/// Returns the extent of the bool at the front of `text`.
-fn bool_extent(text: &str) -> Extent
-    ensures { IsRead result text.now }
-{
-    match bool_len(text) {
-        Some(len) if ends_bool(&text[len..]) => Extent::Literal(len),
-        _ => Extent::Unread,
+        _ => match bool_len(text) {
+            Some(len) if ends_bool(&text[len..]) => Extent::Literal(len),
+            _ => Extent::Unread,
+        },
     }
 }
 

@@ -1,11 +1,9 @@
 //! The extent of a literal that may be malformed.
-ghost use Rattle.std.specs.Prelude.{◌≡◌, ◌≤◌, ℕ, length, drop};
-ghost use Rattle.std.specs.Str.{chars};
-ghost use Rattle.litrs_prefix.specs.Ends.{IsEndOf, after_digits, after_exponent, after_fraction, after_sign};
-ghost use Rattle.litrs_prefix.specs.Meant.{after_quoted, after_single_quote, after_char, after_closing, after_raw, after_prefixed, after_number, after_body, after_opened};
+ghost use Rattle.litrs_prefix.specs.Words.{◌≡◌, ◌≤◌, ℕ, length, drop, chars, IsEndOf, after_digits, after_exponent, after_fraction, after_sign, after_quoted, after_single_quote, after_char, after_closing, after_raw, after_prefixed, after_number, after_body, after_opened};
 
-use crate::name::{after_hashes, after_name};
-use crate::opening::{begins_with_single_quote, opens_bytes, opens_c_string, opens_raw};
+use crate::opening::{
+    after_hashes, after_name, begins_with_single_quote, opens_bytes, opens_c_string, opens_raw,
+};
 use litrs_base::{IntegerBase, split_first_char};
 use litrs_lex::hashes::{hash_len, is_inner_quote};
 use litrs_lex::{Run, Special, next_special, run_end};
@@ -47,6 +45,7 @@ fn after_prefixed(text: &str) -> &str
 
 /// Returns the part of `text` after the parts of a float: digits, a period and more digits, an
 /// exponent. The prefix of an integer and its digits are left for the suffix.
+#[tactic(auto, using(crate::proofs::Meant::number_parts))]
 fn after_number(text: &str) -> &str
     ensures { chars result.now ≡ after_number (chars text.now) }
 {

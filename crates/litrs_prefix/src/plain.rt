@@ -1,29 +1,12 @@
 //! Literals that are read once: those without a suffix, before an ASCII character that no name has.
 //! Most literals of a source are such. Strings that are not closed are read once too.
-ghost use Rattle.std.specs.Prelude.{◌≡◌, ◌==◌, ◌&&◌, ◌||◌, not, ◌++◌, ⊤, length, IsTrue, IsFalse, IfOk, IfErr, IfSome, IfNone};
-ghost use Rattle.std.specs.Char.{is_ascii, is_ascii_alphanumeric, is_ascii_digit};
-ghost use Rattle.std.specs.Str.{chars};
-ghost use Rattle.unicode_ident.specs.Ident.{is_xid_continue};
-ghost use Rattle.litrs_base.specs.Text.{begins_with, first_passes};
-ghost use Rattle.litrs_base.specs.Quotes.{char_front, quoted_front, raw_front, switches_of};
-ghost use Rattle.litrs_grammar.specs.CharByte.{is_char_item, plain_char};
-ghost use Rattle.litrs_grammar.specs.Float.{is_period};
-ghost use Rattle.litrs_grammar.specs.LiteralRefusals.{is_float_mark};
-ghost use Rattle.litrs.specs.LiteralDerivation.{literal_raw, derivation};
-ghost use Rattle.litrs_lex.specs.Reading.{IsItemsEnd};
-ghost use Rattle.litrs_prefix.specs.Ends.{after_digits, IsEndOf, IsItemBefore, HasLiteralBefore, IsOnlyRest};
-ghost use Rattle.litrs_prefix.specs.Extent.{IsLiteralLen, IsMalformedLen, IsRead};
-ghost use Rattle.litrs_prefix.specs.Meant.{after_opened};
-ghost use Rattle.litrs_prefix.specs.Opens.{opens};
-ghost use Rattle.litrs_prefix.specs.Prefix.{HasPrefix};
+ghost use Rattle.litrs_prefix.specs.Words.{◌≡◌, ◌==◌, ◌&&◌, ◌||◌, not, ◌++◌, ⊤, length, IsTrue, IsFalse, IfOk, IfErr, IfSome, IfNone, is_ascii, is_ascii_alphanumeric, is_ascii_digit, chars, is_xid_continue, begins_with, first_passes, char_front, quoted_front, raw_front, switches_of, is_char_item, plain_char, is_period, literal_raw, derivation, IsItemsEnd, after_digits, IsEndOf, IsItemBefore, HasLiteralBefore, IsOnlyRest, IsLiteralLen, IsMalformedLen, IsRead, after_opened, opens, HasPrefix};
 
 use crate::Prefix;
 use crate::extent::{Extent, judged_extent};
-use crate::follow::{begins_with_period, keeps_period};
+use crate::follow::{begins_with_period, integer_follows, keeps_period};
 use crate::malformed::after_digits;
-use crate::name::{is_empty, starts_beyond_ascii};
-use crate::opening::begins_with_quote;
-use crate::piece::integer_follows;
+use crate::opening::{begins_with_quote, is_empty, starts_beyond_ascii};
 use litrs::{Literal, StringLit};
 use litrs_base::{CharKind, begins_with_digit, split_first_char};
 use litrs_lex::integer::begins_with_e;
@@ -31,7 +14,8 @@ use litrs_lex::quoted::{items_end, plain_body_end};
 use litrs_lex::raw::{body_end, open_raw};
 use litrs_lex::{InByteString, InCString, InString, Run, StringKind, run_end, unescape_with};
 
-/// Like [`opened_extent`](crate::opened_extent), for a text that starts with a digit.
+/// Like [`opened_extent`](crate::opened_extent), for a text that starts with a digit. A name that
+/// follows the digits, as in `0xFF` and `1u32`, is read with them.
 #[inline(never)]
 pub fn number_extent(text: &str) -> Result<usize, usize>
     requires opens { IsTrue (opens (chars text.now)) }
@@ -50,26 +34,14 @@ pub fn number_extent(text: &str) -> Result<usize, usize>
     } else if begins_with_e(rest.as_bytes()) {
         judged_extent(text)
     } else {
-        word_extent(text)
-    }
-}
-
-/// Like [`number_extent`], for a text of digits and a name that does not begin with `e` or `E`, as
-/// in `0xFF` and `1u32`.
-fn word_extent(text: &str) -> Result<usize, usize>
-    requires opens { IsTrue (opens (chars text.now)) }
-    requires digit { IsTrue (first_passes is_ascii_digit (chars text.now)) }
-    requires no_mark { IsFalse (first_passes is_float_mark (after_digits (chars text.now))) }
-    ensures literal { IfOk result (IsLiteralLen text.now) }
-    ensures malformed { IfErr result (IsMalformedLen text.now) }
-{
-    let len = run_end(text.as_bytes(), Run::Identifier);
-    let (front, rest) = text.split_at(len);
-    match integer_follows(front, rest) {
-        Some(true) => Ok(len),
-        Some(false) => judged_extent(text),
-        None if starts_beyond_ascii(rest) => judged_extent(text),
-        None => Err(len),
+        let len = run_end(text.as_bytes(), Run::Identifier);
+        let (front, rest) = text.split_at(len);
+        match integer_follows(front, rest) {
+            Some(true) => Ok(len),
+            Some(false) => judged_extent(text),
+            None if starts_beyond_ascii(rest) => judged_extent(text),
+            None => Err(len),
+        }
     }
 }
 
@@ -158,7 +130,7 @@ pub fn raw_extent(text: &str, kind: StringKind) -> Extent
     }
 }
 
-/// Parses the string at the front of `text`, if its body has neither a backslash nor a CR, and if it
+/// Parses the string at the front of `text`, if its body has neither a backslash nor a CR, and it
 /// has no suffix before an ASCII character that no name has, or the end of the text. Otherwise
 /// returns `None`.
 #[inline(always)]
@@ -181,6 +153,7 @@ pub fn plain_string(text: &str) -> Option<Prefix<'_>>
 }
 
 /// Returns `true` if `text` is empty or starts with an ASCII character that no name has.
+#[tactic(auto, using(crate::proofs::PlainLiterals::name_end))]
 fn ends_name(text: &str) -> bool
     ensures { IsTrue result → IsFalse (first_passes is_xid_continue (chars text.now)) }
 {
@@ -203,20 +176,12 @@ fn after_item(body: &str, kind: CharKind) -> Option<&str>
     ensures { IfSome result (λ rest. IsItemBefore kind body.now rest.now) }
 {
     match split_first_char(body) {
-        Some((c, _)) if c == '\\' => after_escape(body, kind),
+        Some((c, _)) if c == '\\' => match unescape_with(body, kind.switches()) {
+            Ok((_, len)) => Some(&body[len..]),
+            Err(_) => None,
+        },
         Some((c, after)) if is_plain_char(c, kind) => Some(after),
         _ => None,
-    }
-}
-
-/// Like [`after_item`], for a body that starts with a backslash.
-fn after_escape(body: &str, kind: CharKind) -> Option<&str>
-    requires { IsTrue (first_passes (λ c. c == 92) (chars body.now)) }
-    ensures { IfSome result (λ rest. IsItemBefore kind body.now rest.now) }
-{
-    match unescape_with(body, kind.switches()) {
-        Ok((_, len)) => Some(&body[len..]),
-        Err(_) => None,
     }
 }
 

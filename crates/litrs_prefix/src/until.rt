@@ -1,11 +1,5 @@
 //! The literal before a delimiter.
-ghost use Rattle.std.specs.Prelude.{◌≡◌, ◌-◌, drop, length, take, IfOk, IfErr};
-ghost use Rattle.std.specs.Str.{chars, IsCharBoundary, drop_trailing_whitespace};
-ghost use Rattle.litrs.specs.Literal.{IsLiteral};
-ghost use Rattle.litrs.specs.LiteralDerivation.{literal_raw, derivation};
-ghost use Rattle.litrs_prefix.specs.Ends.{IsEndOf};
-ghost use Rattle.litrs_prefix.specs.Malformed.{IsMarkedAt};
-ghost use Rattle.litrs_prefix.specs.Until.{is_delimiter, from_first, from_delimiter, before_delimiter, StartsWithDelimiter, IsRefusedUntil};
+ghost use Rattle.litrs_prefix.specs.Words.{◌≡◌, ◌-◌, drop, length, take, IfOk, IfErr, chars, IsCharBoundary, drop_trailing_whitespace, IsLiteral, literal_raw, derivation, IsEndOf, IsMarkedAt, is_delimiter, from_first, from_delimiter, before_delimiter, StartsWithDelimiter, IsRefusedUntil};
 
 use crate::malformed::after_opened;
 use crate::opening::opens;

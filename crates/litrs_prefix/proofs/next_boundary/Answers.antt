@@ -1,9 +1,5 @@
 -- The text after the first character of the rest is an end of the text.
-use Rattle.std.proofs.Common.{◌≡◌, ◌<◌, ℕ, List, [], length, drop, ap, sym, ◌∙◌, arith}
-use Rattle.std.specs.Prelude.{encode_utf8_all}
-use Rattle.std.specs.Str.{chars}
-use Rattle.std.proofs.lemmas.Str.{encodes-chars}
-use Rattle.litrs_prefix.proofs.Ends.{after_first, after_bytes, end_at, end_boundary, shorter}
+use Rattle.litrs_prefix.proofs.Words.{◌≡◌, ℕ, List, [], length, drop, ap, sym, ◌∙◌, arith, encode_utf8_all, chars, encodes-chars, after_first, after_bytes, end_at, end_boundary}
 use Rattle.litrs_prefix.proofs.next_boundary.Goals as goal
 
 pub returns-in-Some-clause-boundary : goal.returns-in-Some-clause-boundary
@@ -12,12 +8,6 @@ returns-in-Some-clause-boundary c =
     let rest = c.range_from.result.now in
     end_boundary text c.in-Some.after.now c.in-Some.ensures.rest
     (after_first text rest c.in-Some.after.now c.in-Some.field-0-0 (after_bytes text rest c.args.start c.range_from.ensures.value) c.in-Some.ensures.bytes)
-
-pub returns-in-Some-clause-longer : goal.returns-in-Some-clause-longer
-returns-in-Some-clause-longer c = λ _.
-    let size = c.range_from.ensures.len in
-    let less : length c.in-Some.after.now < length c.range_from.result.now = shorter c.range_from.result.now c.in-Some.field-0-0 c.in-Some.after.now c.in-Some.ensures.bytes in
-    omega arith
 
 pub returns-in-None-clause-longer : goal.returns-in-None-clause-longer
 returns-in-None-clause-longer c = λ less.

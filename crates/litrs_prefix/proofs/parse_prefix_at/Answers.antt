@@ -1,7 +1,5 @@
 -- The spans of an error lie in the source, and so do the moved ones.
-use Rattle.std.proofs.Common.{List, ℕ, refl, subst, arith}
-use Rattle.std.specs.Str.{chars}
-use Rattle.litrs_prefix.specs.Malformed.{IsMalformedOrOutOfMemory}
+use Rattle.litrs_prefix.proofs.Words.{List, ℕ, refl, subst, arith, chars, IsMalformedOrOutOfMemory}
 use Rattle.litrs_prefix.proofs.Marks.{moved_marks}
 use Rattle.litrs_prefix.proofs.Pieces.{malformed_moves}
 use Rattle.litrs_prefix.proofs.parse_prefix_at.Goals as goal

@@ -1,8 +1,5 @@
 -- The piece that opens is the literal, or the malformed prefix, or shorter than it.
-use Rattle.std.proofs.Common.{ℕ, List, Some, None, drop, sym, ◌∙◌}
-use Rattle.std.specs.Str.{chars}
-use Rattle.litrs_prefix.specs.Ends.{IsOnlyRest}
-use Rattle.litrs_prefix.specs.Meant.{after_opened}
+use Rattle.litrs_prefix.proofs.Words.{ℕ, List, Some, None, drop, sym, ◌∙◌, chars, IsOnlyRest, after_opened}
 use Rattle.litrs_prefix.proofs.Judged.{judged_prefix, judged_none, malformed_piece}
 use Rattle.litrs_prefix.proofs.MeantEnds.{OpenedAt, opened_at}
 use Rattle.litrs_prefix.proofs.extent.judged_extent.Goals as goal

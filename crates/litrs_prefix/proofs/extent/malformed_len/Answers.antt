@@ -1,9 +1,6 @@
 -- The whole text is not a literal, so some piece is not one.
-use Rattle.std.proofs.Common.{◌≡◌, ◌<◌, ◌≤◌, ℕ, List, [], length, refl, subst, inl, inr, arith, ◌∙◌}
-use Rattle.std.specs.Str.{chars}
+use Rattle.litrs_prefix.proofs.Words.{◌≡◌, ◌<◌, ◌≤◌, ℕ, List, [], length, refl, subst, inl, inr, arith, ◌∙◌, chars, take_all, IsLiteral}
 use Rattle.std.proofs.Math.Nat.{eq-or-lt_of_le}
-use Rattle.std.proofs.lemmas.List.{take_all}
-use Rattle.litrs_grammar.specs.Literal.{IsLiteral}
 use Rattle.litrs_prefix.proofs.Judged.{malformed_piece}
 use Rattle.litrs_prefix.proofs.LongerTexts.{whole}
 use Rattle.litrs_prefix.proofs.Pieces.{meant_next}

@@ -1,6 +1,5 @@
 -- A text that does not begin with a digit has one end.
-use Rattle.std.proofs.Common.{sym, ◌∙◌}
-use Rattle.std.specs.Str.{chars}
+use Rattle.litrs_prefix.proofs.Words.{sym, ◌∙◌, chars}
 use Rattle.litrs_prefix.proofs.NumberEnds.{only_unless_digit}
 use Rattle.litrs_prefix.proofs.extent.opened_extent.Goals as goal
 

@@ -1,13 +1,5 @@
 -- A quote and the hashes close the body; else what follows its first character has the same closing.
-use Rattle.std.proofs.Common.{◌≡◌, ℕ, ◌+◌, ◌<◌, [], ◌∷◌, suc, true, false, length, drop, sym, ap, ◌∙◌, arith}
-use Rattle.std.proofs.lemmas.List.{drop_all}
-use Rattle.std.specs.Str.{chars}
-use Rattle.std.proofs.lemmas.Bool.{ne_eqb, and_left}
-use Rattle.std.proofs.lemmas.Str.{IsCharBoundary-from_drop}
-use Rattle.litrs_base.specs.Text.{begins_with}
-use Rattle.litrs_grammar.specs.Raw.{raw_closing, hashes}
-use Rattle.litrs_prefix.specs.Meant.{after_closing}
-use Rattle.litrs_prefix.proofs.Ends.{shorter}
+use Rattle.litrs_prefix.proofs.Words.{◌≡◌, ℕ, ◌+◌, [], ◌∷◌, suc, true, false, drop, sym, ap, ◌∙◌, arith, drop_all, chars, ne_eqb, and_left, IsCharBoundary-from_drop, begins_with, raw_closing, hashes, after_closing}
 use Rattle.litrs_prefix.proofs.Meant.{closing_here, closing_later, quote_hashes, hashes_front, hashes_chars}
 use Rattle.litrs_prefix.proofs.malformed.after_closing.Goals.{else-c-eq34-via-then-c-eq34+else-not-is_inner_quote, else-c-eq34-via-else-c-eq34}
 use Rattle.litrs_prefix.proofs.malformed.after_closing.Goals as goal
@@ -48,12 +40,6 @@ loop-c-preserved c =
       c.in-Some.ensures.rest,
       sym (ap (after_closing n) c.in-Some.ensures.parts ∙ closing_later n c.in-Some.c (chars after) passed) ∙ (c.from_quote-stop.ensures.closing n ∙ c.loop-c.invariant.1),
     )
-
-pub loop-c-smaller : goal.loop-c-smaller
-loop-c-smaller c =
-    let less : length c.in-Some.after.now < length c.from_quote-stop.result.now = shorter c.from_quote-stop.result.now c.in-Some.c c.in-Some.after.now c.in-Some.ensures.bytes in
-    let within = c.from_quote-stop.ensures.shorter in
-    omega arith
 
 nothing : (n : ℕ) → after_closing n [] ≡ []
 nothing n = drop_all _ [] (omega arith)

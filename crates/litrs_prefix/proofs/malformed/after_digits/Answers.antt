@@ -1,9 +1,5 @@
 -- The text after the decimal digits.
-use Rattle.std.proofs.Common.{◌≡◌, ℕ, drop, sym, ap, subst, ◌∙◌}
-use Rattle.std.specs.List.{prefix_len}
-use Rattle.std.specs.Str.{chars, IsCharBoundary}
-use Rattle.litrs_grammar.specs.Float.{is_decimal_char}
-use Rattle.litrs_prefix.proofs.Ends.{after_bytes}
+use Rattle.litrs_prefix.proofs.Words.{◌≡◌, ℕ, drop, sym, ap, subst, ◌∙◌, prefix_len, chars, IsCharBoundary, is_decimal_char, after_bytes}
 use Rattle.litrs_prefix.proofs.NumberEnds.{digits_front}
 use Rattle.litrs_prefix.proofs.malformed.after_digits.Goals as goal
 

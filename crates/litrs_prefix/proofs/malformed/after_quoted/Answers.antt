@@ -1,6 +1,5 @@
 -- Each step passes a character.
-use Rattle.std.proofs.Common.{refl}
-use Rattle.std.specs.Str.{chars}
+use Rattle.litrs_prefix.proofs.Words.{refl, chars}
 use Rattle.litrs_prefix.proofs.Meant.{past_quote_is}
 use Rattle.litrs_prefix.proofs.malformed.after_quoted.Goals as goal
 

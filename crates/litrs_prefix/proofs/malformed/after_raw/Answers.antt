@@ -1,9 +1,5 @@
 -- The hashes are counted in bytes.
-use Rattle.std.proofs.Common.{◌≡◌, ℕ, drop, sym, ap, ◌∙◌}
-use Rattle.std.specs.Str.{chars}
-use Rattle.litrs_base.proofs.Chars.{prefix_len-chars}
-use Rattle.litrs_grammar.specs.Raw.{is_hash, hash_len}
-use Rattle.litrs_prefix.specs.Meant.{after_closing}
+use Rattle.litrs_prefix.proofs.Words.{◌≡◌, ℕ, drop, sym, ap, ◌∙◌, chars, prefix_len-chars, is_hash, hash_len, after_closing}
 use Rattle.litrs_prefix.proofs.Meant.{hash_is_ascii}
 use Rattle.litrs_prefix.proofs.malformed.after_raw.Goals as goal
 

@@ -1,5 +1,5 @@
 -- Each step passes a character.
-use Rattle.std.specs.Str.{chars}
+use Rattle.litrs_prefix.proofs.Words.{chars}
 use Rattle.litrs_prefix.proofs.Meant.{past_single_quote_is}
 use Rattle.litrs_prefix.proofs.malformed.after_single_quote.Goals as goal
 

@@ -1,16 +1,8 @@
 -- No closing begins at a character that is passed.
-use Rattle.std.proofs.Common.{◌≡◌, ◌≤◌, ℕ, ◌+◌, Bool, List, [], ◌∷◌, ◌++◌, true, false, drop, refl, sym, ap, subst, ◌∙◌, arith}
-use Rattle.std.specs.Prelude.{◌==◌}
-use Rattle.std.specs.List.{list_all, prefix_len}
-use Rattle.std.specs.Str.{chars, IsCharBoundary}
-use Rattle.std.proofs.lemmas.Bool.{and_parts, and_left, ne_eqb, true≢false}
+use Rattle.litrs_prefix.proofs.Words.{◌≡◌, ◌≤◌, ℕ, ◌+◌, Bool, List, [], ◌∷◌, ◌++◌, true, false, drop, refl, sym, ap, subst, ◌∙◌, arith, ◌==◌, list_all, prefix_len, chars, IsCharBoundary, and_parts, and_left, ne_eqb, true≢false, IsCharBoundary-from_drop, raw_special, after_closing, after_bytes, not_longer}
 use Rattle.std.proofs.lemmas.Bool.Decides.{nat_tests}
-use Rattle.std.proofs.lemmas.Str.{IsCharBoundary-from_drop}
-use Rattle.litrs_lex.specs.RawCut.{raw_special}
 use Rattle.litrs_lex.specs.Special.{is_ordinary}
 use Rattle.litrs_lex.proofs.PlainRuns.{char_run}
-use Rattle.litrs_prefix.specs.Meant.{after_closing}
-use Rattle.litrs_prefix.proofs.Ends.{after_bytes, not_longer}
 use Rattle.litrs_prefix.proofs.Meant.{closing_later}
 use Rattle.litrs_prefix.proofs.malformed.from_quote.Goals as goal
 

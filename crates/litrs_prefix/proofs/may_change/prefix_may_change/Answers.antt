@@ -1,13 +1,5 @@
 -- The kind of text that begins at the front decides.
-use Rattle.std.proofs.Common.{◌≡◌, ◌≤◌, ℕ, List, [], ◌∷◌, drop, length, false, refl, sym, ap, subst, ◌∙◌, arith}
-use Rattle.std.specs.Str.{chars, IsUtf8}
-use Rattle.std.proofs.lemmas.Bool.{eqb-true, eq-eqb, true≢false}
-use Rattle.std.proofs.lemmas.List.{drop_all, length-drop}
-use Rattle.std.proofs.lemmas.Str.{chars-nil, encodes-chars, IsUtf8-drop}
-use Rattle.std.specs.Prelude.{encode_utf8_all, nat_eq}
-use Rattle.litrs_base.specs.Text.{is_empty}
-use Rattle.litrs_prefix.specs.MayChange.{AnswerStays}
-use Rattle.litrs_prefix.specs.Prefix.{HasPrefix}
+use Rattle.litrs_prefix.proofs.Words.{◌≡◌, ◌≤◌, ℕ, List, [], ◌∷◌, drop, length, false, refl, sym, ap, subst, ◌∙◌, arith, chars, IsUtf8, eqb-true, eq-eqb, true≢false, drop_all, length-drop, chars-nil, encodes-chars, IsUtf8-drop, encode_utf8_all, nat_eq, is_empty, AnswerStays, HasPrefix}
 use Rattle.litrs_prefix.proofs.MayChange.{none_stays, none_changes, literal_stays, literal_changes, malformed_stays, malformed_completes, malformed_reaches_end, malformed_line_feed}
 use Rattle.litrs_prefix.proofs.may_change.prefix_may_change.Goals as goal
 

@@ -1,10 +1,5 @@
 -- The bool at the front is the name if no more follows.
-use Rattle.std.proofs.Common.{not, List, ℕ, sym, ap, ◌∙◌}
-use Rattle.std.specs.Str.{chars}
-use Rattle.unicode_ident.specs.Ident.{is_xid_continue}
-use Rattle.litrs_base.specs.Text.{first_passes}
-use Rattle.litrs_grammar.specs.Bool.{is_bool}
-use Rattle.litrs_prefix.specs.Opens.{first_name}
+use Rattle.litrs_prefix.proofs.Words.{not, List, ℕ, sym, ap, ◌∙◌, chars, is_xid_continue, first_passes, is_bool, first_name}
 use Rattle.litrs_prefix.proofs.Names.{name_is_bool}
 use Rattle.litrs_prefix.proofs.Runs.{bool_front, no_bool_name}
 use Rattle.litrs_prefix.proofs.opening.opens_bool.Goals as goal

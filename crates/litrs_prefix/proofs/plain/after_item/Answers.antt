@@ -1,13 +1,25 @@
 -- An escape, or a plain character.
-use Rattle.std.proofs.Common.{ℕ, sym, ap, ◌∙◌}
-use Rattle.std.specs.Prelude.{◌==◌}
-use Rattle.litrs_base.specs.Text.{first_passes}
-use Rattle.litrs_grammar.specs.CharByte.{plain_char}
-use Rattle.litrs_prefix.proofs.Ends.{all, after_first}
+use Rattle.litrs_prefix.proofs.Words.{◌≡◌, ℕ, List, ◌++◌, true, or_right, sym, ap, subst, ◌∙◌, ◌==◌, chars, first_passes, Switches, plain_char, escaped_char, all, after_first, after_bytes}
+use Rattle.litrs_grammar.specs.Escape.{escape_text, is_escape}
 use Rattle.litrs_prefix.proofs.plain.after_item.Goals as goal
 
-pub after_escape-requires : goal.after_escape-requires
-after_escape-requires c = ap (first_passes (λ (k : ℕ). k == 92)) c.in-Some.ensures.parts ∙ ap (λ (k : ℕ). k == 92) c.if-c-eq92.true
+pub unescape_with-requires : goal.unescape_with-requires
+unescape_with-requires c = or_right _ _ (ap (first_passes (λ (k : ℕ). k == 92)) c.in-Some.ensures.parts ∙ ap (λ (k : ℕ). k == 92) c.if-c-eq92.true)
+
+pub range_from-requires : goal.range_from-requires
+range_from-requires c = λ _. c.in-Ok.ensures.ok.boundary
+
+pub returns-in-Ok : goal.returns-in-Ok
+returns-in-Ok c =
+    let is = c.in-Ok.ensures.ok in
+    let back = c.range_from.ensures.value in
+    record {
+      item = escaped_char is.escape;
+      grammar = subst (λ (w : Switches). is_escape w is.escape ≡ true) c.switches.ensures is.grammar;
+      spells = ap (λ (l : List ℕ). escape_text is.escape ++ l) (ap chars back ∙ is.after) ∙ is.spells;
+      end = after_bytes c.args.body.now c.range_from.result.now c.in-Ok.len back;
+      utf8 = c.range_from.utf8;
+    }
 
 pub returns-in-Some-2 : goal.returns-in-Some-2
 returns-in-Some-2 c =

@@ -1,12 +1,5 @@
 -- A fraction follows the period, or it does not belong to a number, or it ends one.
-use Rattle.std.proofs.Common.{◌≡◌, ◌∷◌, true, false, refl, sym, ap, ◌∙◌}
-use Rattle.std.specs.Char.{is_ascii_digit}
-use Rattle.std.specs.Str.{chars}
-use Rattle.litrs_base.specs.Text.{first_passes}
-use Rattle.litrs_grammar.specs.Suffix.{starts_identifier}
-use Rattle.litrs_prefix.specs.Ends.{after_digits}
-use Rattle.litrs_prefix.specs.Prefix.{keeps_period}
-use Rattle.litrs_prefix.proofs.Ends.{after_first, end_of_end}
+use Rattle.litrs_prefix.proofs.Words.{◌≡◌, ◌∷◌, true, false, refl, sym, ap, ◌∙◌, is_ascii_digit, chars, first_passes, starts_identifier, after_digits, keeps_period, after_first, end_of_end}
 use Rattle.litrs_prefix.proofs.PlainLiterals.{before_of, period_first, fraction_at, kept_period, bare_at, no_start}
 use Rattle.litrs_prefix.proofs.NumberEnds.{only_at_fraction}
 use Rattle.litrs_prefix.proofs.plain.after_period.Goals as goal

@@ -1,9 +1,5 @@
 -- The front, an item, a quote.
-use Rattle.std.proofs.Common.{◌≡◌, ℕ, List, ◌∷◌, ◌++◌, refl, sym, ap, ◌∙◌}
-use Rattle.std.specs.Str.{chars}
-use Rattle.litrs_base.specs.Quotes.{char_front}
-use Rattle.litrs_grammar.specs.CharByte.{char_item_text}
-use Rattle.litrs_prefix.proofs.Ends.{after_first, after_bytes, end_of_end}
+use Rattle.litrs_prefix.proofs.Words.{◌≡◌, ℕ, List, ◌∷◌, ◌++◌, refl, sym, ap, ◌∙◌, chars, char_front, char_item_text, after_first, after_bytes, end_of_end}
 use Rattle.litrs_prefix.proofs.Extents.{literal_len, after_front, char_low}
 use Rattle.litrs_prefix.proofs.PlainLiterals.{before_of, char_at, no_start}
 use Rattle.litrs_prefix.proofs.Runs.{front_cut}

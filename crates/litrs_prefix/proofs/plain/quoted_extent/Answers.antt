@@ -1,8 +1,5 @@
 -- The front, the items of a body, and a quote or nothing.
-use Rattle.std.proofs.Common.{◌≡◌, ℕ, [], ◌∷◌, drop, refl, sym, ap, ◌∙◌}
-use Rattle.std.specs.Str.{chars}
-use Rattle.litrs_base.specs.Quotes.{quoted_front}
-use Rattle.litrs_prefix.proofs.Ends.{after_first, after_bytes, end_of_end}
+use Rattle.litrs_prefix.proofs.Words.{◌≡◌, ℕ, [], ◌∷◌, drop, refl, sym, ap, ◌∙◌, chars, quoted_front, after_first, after_bytes, end_of_end}
 use Rattle.litrs_prefix.proofs.Extents.{literal_len, whole_malformed, after_front, quoted_digit, quoted_low}
 use Rattle.litrs_prefix.proofs.PlainLiterals.{before_of, quoted_ends}
 use Rattle.litrs_prefix.proofs.Runs.{front_cut}

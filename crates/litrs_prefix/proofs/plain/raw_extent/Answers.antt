@@ -1,11 +1,5 @@
 -- The front, hashes and a quote, a body, and a closing or nothing.
-use Rattle.std.proofs.Common.{◌+◌, ℕ, List, drop, sym, ap, ◌∙◌}
-use Rattle.std.specs.Str.{chars}
-use Rattle.std.proofs.lemmas.Str.{IsCharBoundary-start, IsCharBoundary-from_drop}
-use Rattle.unicode_ident.specs.Ident.{is_xid_continue}
-use Rattle.litrs_base.specs.Quotes.{raw_front}
-use Rattle.litrs_base.specs.Text.{first_passes}
-use Rattle.litrs_prefix.proofs.Ends.{after_bytes, end_of_end}
+use Rattle.litrs_prefix.proofs.Words.{◌+◌, ℕ, List, drop, sym, ap, ◌∙◌, chars, IsCharBoundary-start, IsCharBoundary-from_drop, is_xid_continue, raw_front, first_passes, after_bytes, end_of_end}
 use Rattle.litrs_prefix.proofs.Extents.{literal_len, whole_malformed, after_front, raw_digit, raw_low}
 use Rattle.litrs_prefix.proofs.PlainLiterals.{before_of}
 use Rattle.litrs_prefix.proofs.Runs.{front_cut}

@@ -1,6 +1,5 @@
 -- The text is cut where its end begins.
-use Rattle.std.proofs.Common.{ap, ◌∙◌}
-use Rattle.std.specs.Str.{chars, drop_trailing_whitespace}
+use Rattle.litrs_prefix.proofs.Words.{ap, ◌∙◌, chars, drop_trailing_whitespace}
 use Rattle.litrs_prefix.proofs.Delimiters.{trimmed, before_is}
 use Rattle.litrs_prefix.proofs.MeantEnds.{ends_at}
 use Rattle.litrs_prefix.proofs.until.before.Goals as goal

@@ -1,16 +1,9 @@
 -- The text before the delimiter is a front of what follows `start`.
-use Rattle.std.proofs.Common.{◌≡◌, List, ℕ, ◌≤◌, ◌++◌, drop, length, sym, ap, subst, ◌∙◌, arith}
-use Rattle.std.specs.Str.{chars}
-use Rattle.litrs_base.specs.Text.{byte_len}
-use Rattle.litrs_grammar.specs.Literal.{IsLiteral, literal_parse}
+use Rattle.litrs_prefix.proofs.Words.{◌≡◌, List, ℕ, ◌≤◌, ◌++◌, drop, length, sym, ap, subst, ◌∙◌, arith, chars, byte_len, IsLiteral, literal_parse, derivation, IsEndOf, after_literal, from_delimiter, before_delimiter, StartsWithDelimiter, after_bytes, end_of_end}
 use Rattle.litrs_grammar.specs.Refused.{IsRefusedOrOutOfMemory}
-use Rattle.litrs.specs.LiteralDerivation.{derivation}
 use Rattle.litrs.proofs.MovedRefusals.{error_moves}
 use Rattle.litrs_lex.proofs.CharCuts.{byte_len-all}
-use Rattle.litrs_prefix.specs.Ends.{IsEndOf}
-use Rattle.litrs_prefix.specs.Until.{after_literal, from_delimiter, before_delimiter, StartsWithDelimiter}
 use Rattle.litrs_prefix.proofs.Delimiters.{delimiter_end, starts_with_delimiter, before_front, bytes_end, refused_marks, taken, front_fits}
-use Rattle.litrs_prefix.proofs.Ends.{after_bytes, end_of_end}
 use Rattle.litrs_prefix.proofs.until.parse_until.Goals as goal
 
 pub before-front-requires : goal.before-front-requires
