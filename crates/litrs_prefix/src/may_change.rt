@@ -1,5 +1,5 @@
 //! The texts to which more text may give a literal, or another answer of `parse_prefix`.
-ghost use Rattle.litrs_prefix.specs.Words.{◌≡◌, IsTrue, IsFalse, chars, AnswerStays, AnswerChanges, OpensNever, OpensLater, is_open_prefix, is_open_front, is_quoted_line_feed, opens, ◌↔◌, IsBareInteger, IsIntegerAndPeriod, PrefixGoesOn};
+ghost use Rattle.litrs_prefix.specs.Words.{◌≡◌, IsTrue, IsFalse, chars, AnswerStays, AnswerChanges, OpensNever, OpensLater, is_open_prefix, is_open_front, is_quoted_line_feed, opens, ◌↔◌, IsIntegerAndPeriod, PrefixGoesOn};
 
 use crate::extent::prefix_len;
 use crate::malformed::after_opened;
@@ -91,17 +91,10 @@ fn is_integer_and_period(text: &str) -> bool
     ensures { IsTrue result ↔ IsIntegerAndPeriod (chars text.now) }
 {
     match text.strip_suffix(".") {
-        Some(front) => is_integer_without_suffix(front),
+        Some(front) => match IntegerLit::parse(front) {
+            Ok(lit) => is_empty(lit.suffix()),
+            Err(_) => false,
+        },
         None => false,
-    }
-}
-
-/// Returns `true` if `text` is an integer without suffix.
-fn is_integer_without_suffix(text: &str) -> bool
-    ensures { IsTrue result ↔ IsBareInteger (chars text.now) }
-{
-    match IntegerLit::parse(text) {
-        Ok(lit) => is_empty(lit.suffix()),
-        Err(_) => false,
     }
 }

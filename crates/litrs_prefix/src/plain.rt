@@ -1,6 +1,6 @@
 //! Literals that are read once: those without a suffix, before an ASCII character that no name has.
 //! Most literals of a source are such. Strings that are not closed are read once too.
-ghost use Rattle.litrs_prefix.specs.Words.{◌≡◌, ◌==◌, ◌&&◌, ◌||◌, not, ◌++◌, ⊤, length, IsTrue, IsFalse, IfOk, IfErr, IfSome, IfNone, is_ascii, is_ascii_alphanumeric, is_ascii_digit, chars, is_xid_continue, begins_with, first_passes, char_front, quoted_front, raw_front, switches_of, is_char_item, plain_char, is_period, literal_raw, derivation, IsItemsEnd, after_digits, IsEndOf, IsItemBefore, HasLiteralBefore, IsOnlyRest, IsLiteralLen, IsMalformedLen, IsRead, after_opened, opens, HasPrefix};
+ghost use Rattle.litrs_prefix.specs.Words.{◌≡◌, ◌++◌, ⊤, length, IsTrue, IsFalse, IfOk, IfErr, IfSome, IfNone, is_ascii_digit, chars, is_xid_continue, begins_with, first_passes, char_front, quoted_front, raw_front, switches_of, is_char_item, plain_char, is_period, literal_raw, derivation, IsItemsEnd, after_digits, IsEndOf, IsItemBefore, HasLiteralBefore, IsOnlyRest, IsLiteralLen, IsMalformedLen, IsRead, after_opened, opens, HasPrefix};
 
 use crate::Prefix;
 use crate::extent::{Extent, judged_extent};
@@ -158,16 +158,9 @@ fn ends_name(text: &str) -> bool
     ensures { IsTrue result → IsFalse (first_passes is_xid_continue (chars text.now)) }
 {
     match split_first_char(text) {
-        Some((c, _)) => is_name_end(c),
+        Some((c, _)) => c.is_ascii() && !(c.is_ascii_alphanumeric() || c == '_'),
         None => true,
     }
-}
-
-/// Returns `true` if `c` is an ASCII character that no name has.
-fn is_name_end(c: char) -> bool
-    ensures { result ≡ (is_ascii c && not (is_ascii_alphanumeric c || (c == 95))) }
-{
-    c.is_ascii() && !(c.is_ascii_alphanumeric() || c == '_')
 }
 
 /// Returns the part of `body` after the character or the escape at its front, or `None` if no char
