@@ -15,7 +15,7 @@ use Rattle.litrs_prefix.specs.Opens.{opens}
 use Rattle.litrs_prefix.specs.Until.{is_delimiter, from_first, after_literal, from_delimiter, before_delimiter, StartsWithDelimiter, IsRefusedUntil}
 use Rattle.litrs_prefix.proofs.Ends.{end_of_end}
 use Rattle.litrs_prefix.proofs.Marks.{span_cut, piece_cut, no_char_span}
-use Rattle.litrs_prefix.proofs.MeantEnds.{opened_piece}
+use Rattle.litrs_prefix.proofs.MeantEnds.{EndsAt, ends_at, opened_piece}
 
 -- the searched text ends with the text, and so does the found rest
 found_by : (ds : List ℕ) (c : ℕ) (t : List ℕ) (v : Bool) → IsEndOf t (from_first ds t) → IsEndOf (c ∷ t) (if v then c ∷ t else from_first ds t)
@@ -103,14 +103,6 @@ refused_marks bs front more start e u bound spells at =
           (piece, span_cut bs front more start (prefix_span start e) None (char_span_of e.error) u bound spells piece (at.char_span ∙ ap (shifted_span start) none) tt))
     ]
 
--- the text that is parsed
-pub taken : (ds source text rest front : List ℕ) (start : ℕ) → text ≡ drop start source → chars rest ≡ from_delimiter ds (chars text) →
-    chars front ≡ drop_trailing_whitespace (take (length (chars text) - length (chars rest)) (chars text)) →
-    chars front ≡ before_delimiter ds (chars (drop start source))
-taken ds source text rest front start same from before =
-    before ∙ (ap (λ (x : List ℕ). drop_trailing_whitespace (take (length (chars text) - length x) (chars text))) from
-    ∙ ap (λ (l : List ℕ). before_delimiter ds (chars l)) same)
-
 -- a front of a text is not longer
 pub front_fits : (text front more : List ℕ) → IsUtf8 text → IsUtf8 front → chars front ++ more ≡ chars text → length front ≤ length text
 front_fits text front more u v is =
@@ -121,3 +113,18 @@ front_fits text front more u v is =
 -- the part before an end, by both
 pub before_is : (t x front : List ℕ) → front ++ x ≡ t → front ≡ take (length t - length x) t
 before_is t x front spells = append_cancel_right front (take (length t - length x) t) x (spells ∙ sym (before_end t x (front, spells)))
+
+-- the place of the delimiter, in bytes
+pub cut_before : (ds text rest : List ℕ) → IsUtf8 text → IsUtf8 rest → chars rest ≡ from_delimiter ds (chars text) → EndsAt text rest (delimiter_end ds (chars text)).0
+cut_before ds text rest u v from =
+    let end = delimiter_end ds (chars text) in
+    ends_at text rest end.0 u v (ap (λ (l : List ℕ). end.0 ++ l) from ∙ end.1)
+
+-- the text that is parsed
+pub taken : (ds source text rest cut front : List ℕ) (start : ℕ) → IsUtf8 text → IsUtf8 rest → IsUtf8 front → text ≡ drop start source → chars rest ≡ from_delimiter ds (chars text) →
+    cut ≡ take (length text - length rest) text → front ≡ trim_end cut → chars front ≡ before_delimiter ds (chars (drop start source))
+taken ds source text rest cut front start u v w same from before trim =
+    let end = delimiter_end ds (chars text) in
+    trimmed cut front w trim
+    ∙ (ap drop_trailing_whitespace (ap chars before ∙ ((cut_before ds text rest u v from).before ∙ before_is (chars text) (from_delimiter ds (chars text)) end.0 end.1))
+    ∙ ap (λ (l : List ℕ). before_delimiter ds (chars l)) same)

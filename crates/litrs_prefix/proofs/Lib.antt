@@ -34,5 +34,7 @@ pub mod NumberExtents
 pub mod PlainLiterals
 pub mod PlainStrings
 pub mod Unclosed
+-- the words and lemmas of the answers
+pub mod Words
 -- examples
 pub mod Examples

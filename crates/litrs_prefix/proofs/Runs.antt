@@ -60,13 +60,16 @@ bool_low : (b : Bool) → list_all (λ c. ltb c 128) (bool_text b) ≡ true
 bool_low true = refl
 bool_low false = refl
 
-pub bool_front : (bs : List ℕ) (b : Bool) (n : ℕ) → IsUtf8 bs → begins_with (bool_text b) bs ≡ true → n ≡ length (bool_text b) → IsCharBoundary bs n × (bool_text b ++ chars (drop n bs) ≡ chars bs)
-bool_front bs b n u begins is =
-    let word = bool_text b in
-    let f = begins_front word bs (bool_low b) begins u in
+-- a text after an ASCII word at its front
+pub front_cut : (word bs : List ℕ) (n : ℕ) → list_all (λ c. ltb c 128) word ≡ true → IsUtf8 bs → begins_with word bs ≡ true → n ≡ length word → IsCharBoundary bs n × (word ++ chars (drop n bs) ≡ chars bs)
+front_cut word bs n low u begins is =
+    let f = begins_front word bs low begins u in
     let spells : word ++ chars (drop (length word) bs) ≡ chars bs =
-    ap (λ (l : List ℕ). word ++ l) (sym f.rest) ∙ begins_with-split word (chars bs) (begins_with-chars word bs (bool_low b) u ∙ begins) in
+    ap (λ (l : List ℕ). word ++ l) (sym f.rest) ∙ begins_with-split word (chars bs) (begins_with-chars word bs low u ∙ begins) in
     subst (λ (k : ℕ). IsCharBoundary bs k × (word ++ chars (drop k bs) ≡ chars bs)) (sym is) (IsCharBoundary-from_drop bs (length word) f.within f.utf8, spells)
+
+pub bool_front : (bs : List ℕ) (b : Bool) (n : ℕ) → IsUtf8 bs → begins_with (bool_text b) bs ≡ true → n ≡ length (bool_text b) → IsCharBoundary bs n × (bool_text b ++ chars (drop n bs) ≡ chars bs)
+bool_front bs b n = front_cut (bool_text b) bs n (bool_low b)
 
 -- no bool is at the front
 pub no_bool_name : (bs : List ℕ) → IsUtf8 bs → ((b : Bool) → begins_with (bool_text b) bs ≡ false) → is_bool (first_name (chars bs)) ≡ false
