@@ -95,12 +95,12 @@ pub fn next_special_masked(bytes: &[u8], from: usize, what: Special, mask: Mask)
     let mut unread = from;
     if from < mask.end {
         let found = mask.bits >> (from - mask.start);
-        // Special bytes at the next two places are found by branches, which do not wait for the
-        // shift.
+        // Special bytes in a row are found by a branch, which does not wait for the shift. So are
+        // those of a raw body that have one byte between them.
         if found % 2 == 1 {
             return (from, mask);
         }
-        if found % 4 == 2 {
+        if !what.backslash && found % 4 == 2 {
             return (from + 1, mask);
         }
         if found != 0 {
