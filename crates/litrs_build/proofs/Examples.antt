@@ -1,11 +1,10 @@
 -- Errors, literals with the same value, and literals that are rewritten.
 use Rattle.std.proofs.Common.{refl}
-use Rattle.std.specs.Prelude.{◌≡◌, Bool, List, [], ◌∷◌, Some, codes}
+use Rattle.std.specs.Prelude.{◌≡◌, true, false, List, [], ◌∷◌, Some, codes}
 use Rattle.std.specs.Fmt.{digits}
-use Rattle.litrs_grammar.specs.CharByte.{CharParts}
 use Rattle.litrs_grammar.specs.Float.{FloatParts}
 use Rattle.litrs_grammar.specs.Integer.{IntegerParts}
-use Rattle.litrs_grammar.specs.Literal.{StringParts, a_bool, an_integer, a_float, a_char, a_byte, a_string, a_byte_string, a_c_string}
+use Rattle.litrs_grammar.specs.Literal.{StringParts, a_bool, an_integer, a_float, a_string, a_c_string}
 use Rattle.litrs_grammar.proofs.Computing.{computing}
 use Rattle.litrs_build.specs.declared.error.BuildError.{BuildError}
 use Rattle.litrs_build.specs.declared.error.BuildError.TheVariants.{NotASuffix, Memory}
@@ -39,22 +38,12 @@ no_memory : (e : BuildError) → IsErrorOf (suffix_error (codes "u8")) e → e �
 unfolding computing
 no_memory e is = is
 
--- literals of two kinds do not have the same value
-kinds_apart :
-    ((b : Bool) (d : IntegerParts) → ¬ HaveSameValue (a_bool b) (an_integer d))
-    × ((d : IntegerParts) (e : FloatParts) → ¬ HaveSameValue (an_integer d) (a_float e))
-    × ((d e : CharParts) → ¬ HaveSameValue (a_char d) (a_byte e))
-    × ((d e : StringParts) → ¬ HaveSameValue (a_string d) (a_byte_string e))
-    × ((d e : StringParts) → ¬ HaveSameValue (a_byte_string d) (a_c_string e))
-    × ((d e : StringParts) → ¬ HaveSameValue (a_c_string d) (a_string e))
-kinds_apart = (
-  λ b d same. same,
-  λ d e same. same,
-  λ d e same. same,
-  λ d e same. same,
-  λ d e same. same,
-  λ d e same. same,
-)
+-- literals of two kinds do not have the same value, nor do `true` and `false`
+values_apart :
+    ((d : IntegerParts) (e : FloatParts) → ¬ HaveSameValue (an_integer d) (a_float e))
+    × ((d e : StringParts) → ¬ HaveSameValue (a_string d) (a_c_string e))
+    × ¬ HaveSameValue (a_bool true) (a_bool false)
+values_apart = (λ d e same. same, λ d e same. same, λ same. cc)
 
 -- Literals that are rewritten: the parts of `0xf_ff_0001u32`, those of `1_0000.0_0012e-1_0f32`, and
 -- those of `"\u{0_0e9}` LF `\` LF `  a"`, whose lines stay or are joined
