@@ -7,7 +7,7 @@ use crate::next_boundary;
 use crate::opening::{bool_len, opens};
 use crate::plain::{char_extent, number_extent, quoted_extent, raw_extent};
 use litrs_base::{CharKind, begins_with_digit};
-use litrs_lex::Front;
+use litrs_lex::StringKind;
 
 /// The extent of the literal at the front of a text that is read once.
 #[derive(Clone, Copy)]
@@ -79,11 +79,13 @@ fn read_once(text: &str) -> Extent
     requires { IsTrue (opens (chars text.now)) }
     ensures { IsRead result text.now }
 {
-    match Front::of(text) {
-        Front::Char => char_extent(text, 1, CharKind::Char),
-        Front::Byte => char_extent(text, 2, CharKind::Byte),
-        Front::Quoted(kind) => quoted_extent(text, kind),
-        Front::Raw(kind) => raw_extent(text, kind),
+    match text.as_bytes() {
+        [b'"', ..] => quoted_extent(text, StringKind::String),
+        [b'\'', ..] => char_extent(text, 1, CharKind::Char),
+        [b'r', ..] => raw_extent(text, StringKind::String),
+        [b'b', b'\'', ..] => char_extent(text, 2, CharKind::Byte),
+        [b'b', b'"', ..] => quoted_extent(text, StringKind::ByteString),
+        [b'b', b'r', ..] => raw_extent(text, StringKind::ByteString),
         _ => match bool_len(text) {
             Some(len) if ends_bool(&text[len..]) => Extent::Literal(len),
             _ => Extent::Unread,
