@@ -1,10 +1,8 @@
 -- The extent of the literal at the front of a text, valid or malformed, in bytes.
-use Rattle.std.specs.Prelude.{◌≡◌, ◌<◌, ℕ, ⊤, Bool, List, Option, Some, None, take, drop}
+use Rattle.std.specs.Prelude.{◌≡◌, ◌<◌, ℕ, Bool, List, Option, Some, None, take, drop}
 use Rattle.std.specs.Str.{chars, IsCharBoundary}
 use Rattle.litrs_base.specs.Derivations.{HasNoDerivation}
 use Rattle.litrs_grammar.specs.Literal.{Derivation, IsLiteral}
-use Rattle.litrs_prefix.specs.declared.extent.Extent.{Extent}
-use Rattle.litrs_prefix.specs.declared.extent.Extent.TheVariants as extent
 use Rattle.litrs_prefix.specs.MayChange.{IsMalformedFront}
 use Rattle.litrs_prefix.specs.Prefix.{may_follow, HasPrefix}
 
@@ -19,12 +17,6 @@ pub record IsMalformedLen (bytes : List ℕ) (len : ℕ) : Type 0 where
   pub boundary : IsCharBoundary bytes len
   pub some : 0 < len
   pub front : IsMalformedFront (chars bytes) (chars (take len bytes))
-
--- The extent that is read once. Nothing is known of a text that is unread.
-abbrev pub IsRead : Extent → (bytes : List ℕ) → Type 0
-IsRead (extent.Literal len) bytes = IsLiteralLen bytes len
-IsRead (extent.Malformed len) bytes = IsMalformedLen bytes len
-IsRead extent.Unread bytes = ⊤
 
 -- The result of the test of a piece: `None` if it is not a literal, and otherwise whether the rest
 -- may follow the literal.

@@ -24,7 +24,7 @@ pub use Rattle.litrs.specs.FloatLiteral.{float_parts}
 pub use Rattle.litrs.specs.IntegerLiteral.{integer_parts}
 pub use Rattle.litrs.specs.LiteralDerivation.{derivation, literal_raw}
 pub use Rattle.litrs_prefix.specs.Ends.{IsOnlyRest, IsEndOf, after_digits, after_exponent, after_fraction, after_sign, IsItemBefore, HasLiteralBefore, past_quote, past_single_quote}
-pub use Rattle.litrs_prefix.specs.Extent.{IsLiteralLen, IsMalformedLen, IsRead, IsJudged, IsJudgedBy}
+pub use Rattle.litrs_prefix.specs.Extent.{IsLiteralLen, IsMalformedLen, IsJudged, IsJudgedBy}
 pub use Rattle.litrs_prefix.specs.GoesOn.{IsBareInteger, IsIntegerAndPeriod, PrefixGoesOn}
 pub use Rattle.litrs_prefix.specs.Laws.{LiteralsAreTheirPrefix, PrefixesStay, PrefixesAreUnique, PrefixesOpen, MalformedAreUnique, MalformedStay}
 pub use Rattle.litrs_prefix.specs.Malformed.{IsMalformedOrOutOfMemory, IsMovedBy, marked_at, IsMarkedAt}

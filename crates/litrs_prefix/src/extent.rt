@@ -1,5 +1,5 @@
 //! The extent of the literal at the front of a text, valid or malformed.
-ghost use Rattle.litrs_prefix.specs.Words.{◌<◌, drop, take, IsTrue, IfOk, IfErr, IfSome, IfNone, chars, IsCharBoundary, Derivation, IsOnlyRest, IsLiteralLen, IsMalformedLen, IsRead, after_opened, IsMeant, opens, HasPrefix, HasNoPrefix};
+ghost use Rattle.litrs_prefix.specs.Words.{◌<◌, drop, take, IsTrue, IfOk, IfErr, IfSome, IfNone, chars, IsCharBoundary, Derivation, IsOnlyRest, IsLiteralLen, IsMalformedLen, after_opened, IsMeant, opens, HasPrefix, HasNoPrefix};
 
 use crate::follow::{ends_bool, follows};
 use crate::malformed::after_opened;
@@ -8,17 +8,6 @@ use crate::opening::{bool_len, opens};
 use crate::plain::{char_extent, number_extent, quoted_extent, raw_extent};
 use litrs_base::{CharKind, begins_with_digit};
 use litrs_lex::StringKind;
-
-/// The extent of the literal at the front of a text that is read once.
-#[derive(Clone, Copy)]
-pub enum Extent {
-    /// The length of a literal.
-    Literal(usize),
-    /// The length of a malformed prefix.
-    Malformed(usize),
-    /// The text has to be read again.
-    Unread,
-}
 
 /// Returns the length in bytes of the literal at the front of `text`, suffix included, or `None` if
 /// there is none, malformed or not. It does not allocate: the value of the literal is not made.
@@ -67,18 +56,6 @@ pub fn opened_extent(text: &str) -> Result<usize, usize>
     if begins_with_digit(text) {
         return number_extent(text);
     }
-    match read_once(text) {
-        Extent::Literal(len) => Ok(len),
-        Extent::Malformed(len) => Err(len),
-        Extent::Unread => judged_extent(text),
-    }
-}
-
-/// Returns the extent of the literal at the front of `text`, but not that of a number.
-fn read_once(text: &str) -> Extent
-    requires { IsTrue (opens (chars text.now)) }
-    ensures { IsRead result text.now }
-{
     match text.as_bytes() {
         [b'"', ..] => quoted_extent(text, StringKind::String),
         [b'\'', ..] => char_extent(text, 1, CharKind::Char),
@@ -87,8 +64,8 @@ fn read_once(text: &str) -> Extent
         [b'b', b'"', ..] => quoted_extent(text, StringKind::ByteString),
         [b'b', b'r', ..] => raw_extent(text, StringKind::ByteString),
         _ => match bool_len(text) {
-            Some(len) if ends_bool(&text[len..]) => Extent::Literal(len),
-            _ => Extent::Unread,
+            Some(len) if ends_bool(&text[len..]) => Ok(len),
+            _ => judged_extent(text),
         },
     }
 }

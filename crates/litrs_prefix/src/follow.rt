@@ -2,7 +2,7 @@
 ghost use Rattle.litrs_prefix.specs.Words.{◌≡◌, chars, first_passes, is_period, float_parts, integer_parts, derivation, is_of_suffix, ends_suffix, ends_bool, keeps_period, gives_period, ends_integer, is_bare, ends_float, may_follow, ◌&&◌, IsTrue, begins_with, quoted_front, raw_front, IsFloatOf, IsIntegerOf, begins_float, IsQuotedLiteral, IsRawLiteral, IsFront, IsJudged, IsJudgedBy};
 
 use crate::malformed::after_digits;
-use crate::opening::{begins_name, continues_name, is_empty};
+use crate::opening::{begins_name, is_empty};
 use litrs::{FloatLit, IntegerLit, Literal};
 use litrs_base::{begins_with_digit, split_first_char};
 use litrs_lex::{Front, StringKind, cut_byte, cut_char, cut_quoted, scan_raw_string};
@@ -148,7 +148,8 @@ fn is_of_suffix(none: bool, c: char) -> bool
 pub(crate) fn ends_bool(rest: &str) -> bool
     ensures { result ≡ ends_bool (chars rest.now) }
 {
-    !continues_name(rest) && !matches!(split_first_char(rest), Some(('"' | '\'' | '#', _)))
+    !matches!(split_first_char(rest), Some((c, _))
+        if is_xid_continue(c) || c == '"' || c == '\'' || c == '#')
 }
 
 /// Returns `true` if `lit` ends where `rest` follows it.

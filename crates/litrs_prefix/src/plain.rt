@@ -1,9 +1,9 @@
 //! Literals that are read once: those without a suffix, before an ASCII character that no name has.
 //! Most literals of a source are such. Strings that are not closed are read once too.
-ghost use Rattle.litrs_prefix.specs.Words.{◌≡◌, ◌++◌, ⊤, length, IsTrue, IsFalse, IfOk, IfErr, IfSome, IfNone, is_ascii_digit, chars, is_xid_continue, begins_with, first_passes, char_front, quoted_front, raw_front, switches_of, is_char_item, plain_char, is_period, literal_raw, derivation, IsItemsEnd, after_digits, IsEndOf, IsItemBefore, HasLiteralBefore, IsOnlyRest, IsLiteralLen, IsMalformedLen, IsRead, after_opened, opens, HasPrefix};
+ghost use Rattle.litrs_prefix.specs.Words.{◌≡◌, ◌++◌, ⊤, length, IsTrue, IsFalse, IfOk, IfErr, IfSome, IfNone, is_ascii_digit, chars, is_xid_continue, begins_with, first_passes, char_front, quoted_front, raw_front, switches_of, is_char_item, plain_char, is_period, literal_raw, derivation, IsItemsEnd, after_digits, IsEndOf, IsItemBefore, HasLiteralBefore, IsOnlyRest, IsLiteralLen, IsMalformedLen, after_opened, opens, HasPrefix};
 
 use crate::Prefix;
-use crate::extent::{Extent, judged_extent};
+use crate::extent::judged_extent;
 use crate::follow::{begins_with_period, integer_follows, keeps_period};
 use crate::malformed::after_digits;
 use crate::opening::{begins_with_quote, is_empty, starts_beyond_ascii};
@@ -67,67 +67,70 @@ fn after_period<'a>(text: &'a str, rest: &'a str) -> Option<&'a str>
     }
 }
 
-/// Returns the extent of the char or the byte at the front of `text`, whose front ends at `start`.
-/// It is unread if a suffix may follow.
-pub fn char_extent(text: &str, start: usize, kind: CharKind) -> Extent
+/// Like [`opened_extent`](crate::opened_extent), for a text that starts with the front of a char or
+/// a byte, which ends at `start`.
+pub fn char_extent(text: &str, start: usize, kind: CharKind) -> Result<usize, usize>
+    requires opens { IsTrue (opens (chars text.now)) }
+    requires other { IsFalse (first_passes is_ascii_digit (chars text.now)) }
     requires begins { IsTrue (begins_with (char_front kind) text.now) }
     requires start { start ≡ length (char_front kind) }
-    ensures { IsRead result text.now }
+    ensures literal { IfOk result (IsLiteralLen text.now) }
+    ensures malformed { IfErr result (IsMalformedLen text.now) }
 {
-    let Some(after) = after_item(&text[start..], kind) else {
-        return Extent::Unread;
-    };
-    match split_first_char(after) {
-        Some((quote, rest)) if quote == '\'' && ends_name(rest) => {
-            Extent::Literal(text.len() - rest.len())
+    if let Some(after) = after_item(&text[start..], kind) {
+        match split_first_char(after) {
+            Some((quote, rest)) if quote == '\'' && ends_name(rest) => {
+                return Ok(text.len() - rest.len());
+            }
+            _ => {}
         }
-        _ => Extent::Unread,
     }
+    judged_extent(text)
 }
 
-/// Returns the extent of the quoted string at the front of `text`. It is unread if it is malformed
-/// or a suffix may follow. A string whose items end with the text is not closed.
+/// Like [`opened_extent`](crate::opened_extent), for a text that starts with the front of a quoted
+/// string. A string whose items end with the text is not closed.
 #[inline(never)]
-pub fn quoted_extent(text: &str, kind: StringKind) -> Extent
+pub fn quoted_extent(text: &str, kind: StringKind) -> Result<usize, usize>
     requires opens { IsTrue (opens (chars text.now)) }
+    requires other { IsFalse (first_passes is_ascii_digit (chars text.now)) }
     requires begins { IsTrue (begins_with (quoted_front kind) text.now) }
-    ensures { IsRead result text.now }
+    ensures literal { IfOk result (IsLiteralLen text.now) }
+    ensures malformed { IfErr result (IsMalformedLen text.now) }
 {
     let body = &text[kind.front_len()..];
     match split_first_char(&body[items_len(body, kind)..]) {
-        Some((quote, rest)) if quote == '"' && ends_name(rest) => {
-            Extent::Literal(text.len() - rest.len())
-        }
-        Some(_) => Extent::Unread,
-        None => Extent::Malformed(text.len()),
+        Some((quote, rest)) if quote == '"' && ends_name(rest) => Ok(text.len() - rest.len()),
+        Some(_) => judged_extent(text),
+        None => Err(text.len()),
     }
 }
 
 /// Like [`quoted_extent`], for a raw string. One that is not closed extends to the end of the text.
 #[inline(never)]
-pub fn raw_extent(text: &str, kind: StringKind) -> Extent
+pub fn raw_extent(text: &str, kind: StringKind) -> Result<usize, usize>
     requires opens { IsTrue (opens (chars text.now)) }
+    requires other { IsFalse (first_passes is_ascii_digit (chars text.now)) }
     requires begins { IsTrue (begins_with (raw_front kind) text.now) }
-    ensures { IsRead result text.now }
+    ensures literal { IfOk result (IsLiteralLen text.now) }
+    ensures malformed { IfErr result (IsMalformedLen text.now) }
 {
     let body = &text[kind.front_len()..];
     let Ok((hashes, start)) = open_raw(body, 0) else {
-        return Extent::Unread;
+        return judged_extent(text);
     };
     let end = body_end(body.as_bytes(), start, hashes, kind.switches());
     let closing = &body[end..];
     if is_empty(closing) {
-        return Extent::Malformed(text.len());
+        return Err(text.len());
     }
-    if !begins_with_quote(closing) {
-        return Extent::Unread;
+    if begins_with_quote(closing) {
+        let rest = &body[end + 1 + hashes..];
+        if ends_name(rest) {
+            return Ok(text.len() - rest.len());
+        }
     }
-    let rest = &body[end + 1 + hashes..];
-    if ends_name(rest) {
-        Extent::Literal(text.len() - rest.len())
-    } else {
-        Extent::Unread
-    }
+    judged_extent(text)
 }
 
 /// Parses the string at the front of `text`, if its body has neither a backslash nor a CR, and it

@@ -1,6 +1,7 @@
 -- The front, the items of a body, and a quote or nothing.
 use Rattle.litrs_prefix.proofs.Words.{◌≡◌, ℕ, [], ◌∷◌, drop, refl, sym, ap, ◌∙◌, chars, quoted_front, after_first, after_bytes, end_of_end}
-use Rattle.litrs_prefix.proofs.Extents.{literal_len, whole_malformed, after_front, quoted_digit, quoted_low}
+use Rattle.litrs_prefix.proofs.Extents.{literal_len, whole_malformed, after_front, quoted_low}
+use Rattle.litrs_prefix.proofs.NumberEnds.{only_unless_digit}
 use Rattle.litrs_prefix.proofs.PlainLiterals.{before_of, quoted_ends}
 use Rattle.litrs_prefix.proofs.Runs.{front_cut}
 use Rattle.litrs_prefix.proofs.Unclosed.{quoted_unclosed}
@@ -12,8 +13,8 @@ range_from-body-requires c = λ _. (front_cut _ c.args.text.now c.front_len.resu
 pub range_from-requires : goal.range_from-requires
 range_from-requires c = λ _. c.items_len.ensures.read.boundary
 
-pub returns-in-Some : goal.returns-in-Some
-returns-in-Some c =
+pub returns-in-Some-clause-literal : goal.returns-in-Some-clause-literal
+returns-in-Some-clause-literal c =
     let text = c.args.text.now in
     let kind = c.args.kind in
     let body = c.range_from-body.result.now in
@@ -26,12 +27,15 @@ returns-in-Some c =
     (after_first text closing rest c.in-Some.quote (end_of_end text body closing (after_bytes text body _ c.range_from-body.ensures.value) (after_bytes body closing place c.range_from.ensures.value)) c.in-Some.ensures.bytes)
     c.in-Some.ensures.rest (quoted_ends kind text body closing rest place front c.items_len.ensures c.range_from.ensures.value quote (c.ends_name.ensures c.if-ends_name.true)) refl)
 
-pub returns-in-None : goal.returns-in-None
-returns-in-None c =
+pub returns-in-None-clause-malformed : goal.returns-in-None-clause-malformed
+returns-in-None-clause-malformed c =
     let text = c.args.text.now in
     let kind = c.args.kind in
     let body = c.range_from-body.result.now in
     let front = after_front (quoted_front kind) text body c.front_len.result (quoted_low kind) c.utf8.text c.requires.begins c.front_len.ensures.quoted c.range_from-body.ensures.value in
     let left : chars (drop c.items_len.result body) ≡ [] = ap chars (sym c.range_from.ensures.value) ∙ c.in-None.ensures.empty in
     let is = quoted_unclosed kind text body c.items_len.result front c.items_len.ensures left in
-    whole_malformed text c.utf8.text c.requires.opens is.1 (quoted_digit kind (chars text) (chars body) front) is.0
+    whole_malformed text c.utf8.text c.requires.opens is.1 c.requires.other is.0
+
+pub judged_extent-requires-clause-only : goal.judged_extent-requires-clause-only
+judged_extent-requires-clause-only c = only_unless_digit (chars c.args.text.now) c.requires.other
