@@ -1,14 +1,12 @@
 -- Extents of literals, valid or malformed, by what follows them.
-use Rattle.std.proofs.Common.{◌≡◌, ℕ, ◌-◌, ◌≤◌, true, false, List, [], ◌∷◌, ◌++◌, length, take, drop, None, refl, sym, ap, subst, ◌∙◌, arith}
+use Rattle.std.proofs.Common.{◌≡◌, ℕ, ◌-◌, ◌≤◌, true, false, List, [], ◌∷◌, ◌++◌, length, take, drop, None, sym, ap, subst, ◌∙◌, arith}
 use Rattle.std.specs.Char.{is_ascii_digit}
 use Rattle.std.specs.Str.{chars, IsUtf8}
 use Rattle.std.proofs.lemmas.List.{take_all, drop_all}
 use Rattle.std.proofs.lemmas.Str.{chars-nil, IsUtf8-nil}
 use Rattle.litrs_base.specs.Derivations.{HasNoDerivation}
 use Rattle.litrs_base.specs.declared.quotes.CharKind.{CharKind}
-use Rattle.litrs_base.specs.declared.quotes.CharKind.TheVariants.{Char as char_kind, Byte as byte_kind}
 use Rattle.litrs_base.specs.declared.quotes.StringKind.{StringKind}
-use Rattle.litrs_base.specs.declared.quotes.StringKind.TheVariants.{String as string_kind, ByteString as byte_string_kind, CString as c_string_kind}
 use Rattle.litrs_base.specs.Quotes.{char_front, quoted_front, raw_front}
 use Rattle.litrs_base.specs.Text.{first_passes}
 use Rattle.litrs_grammar.specs.Literal.{IsLiteral}
@@ -46,28 +44,14 @@ whole_malformed bs u opens_at after digit invalid =
 
 -- no front of another kind than a number starts with a digit
 
-char_no_digit : (kind : CharKind) (x : List ℕ) → first_passes is_ascii_digit (char_front kind ++ x) ≡ false
-char_no_digit char_kind x = refl
-char_no_digit byte_kind x = refl
-
-quoted_no_digit : (kind : StringKind) (x : List ℕ) → first_passes is_ascii_digit (quoted_front kind ++ x) ≡ false
-quoted_no_digit string_kind x = refl
-quoted_no_digit byte_string_kind x = refl
-quoted_no_digit c_string_kind x = refl
-
-raw_no_digit : (kind : StringKind) (x : List ℕ) → first_passes is_ascii_digit (raw_front kind ++ x) ≡ false
-raw_no_digit string_kind x = refl
-raw_no_digit byte_string_kind x = refl
-raw_no_digit c_string_kind x = refl
-
 pub char_digit : (kind : CharKind) (t x : List ℕ) → t ≡ char_front kind ++ x → first_passes is_ascii_digit t ≡ false
-char_digit kind t x is = ap (first_passes is_ascii_digit) is ∙ char_no_digit kind x
+char_digit kind t x is = rw is (grind arith)
 
 pub quoted_digit : (kind : StringKind) (t x : List ℕ) → t ≡ quoted_front kind ++ x → first_passes is_ascii_digit t ≡ false
-quoted_digit kind t x is = ap (first_passes is_ascii_digit) is ∙ quoted_no_digit kind x
+quoted_digit kind t x is = rw is (grind arith)
 
 pub raw_digit : (kind : StringKind) (t x : List ℕ) → t ≡ raw_front kind ++ x → first_passes is_ascii_digit t ≡ false
-raw_digit kind t x is = ap (first_passes is_ascii_digit) is ∙ raw_no_digit kind x
+raw_digit kind t x is = rw is (grind arith)
 
 pub only_char : (kind : CharKind) (t x : List ℕ) → t ≡ char_front kind ++ x → IsOnlyRest t (after_opened t)
 only_char kind t x is = only_unless_digit t (char_digit kind t x is)

@@ -1,17 +1,17 @@
 -- Texts that more text may give another literal at the front.
-use Rattle.std.proofs.Common.{◌≡◌, ◌⊎◌, inl, inr, ℕ, Bool, true, false, not, ◌&&◌, List, [], ◌∷◌, ◌++◌, refl, sym, ap, subst, ◌∙◌, append_assoc, arith}
+use Rattle.std.proofs.Common.{◌≡◌, ◌⊎◌, inl, inr, ℕ, Bool, true, false, not, List, [], ◌∷◌, ◌++◌, refl, sym, ap, subst, ◌∙◌, append_assoc, arith}
 use Rattle.std.specs.Char.{is_ascii_digit}
 use Rattle.std.specs.List.{list_all}
-use Rattle.std.proofs.lemmas.Bool.{and_parts, and_from, eqb-true, true≢false}
+use Rattle.std.proofs.lemmas.Bool.{and_parts, and_from, true≢false}
+use Rattle.std.proofs.lemmas.Bool.Decides.{nat_tests}
 use Rattle.std.proofs.lemmas.List.Folds.{list_all-append}
 use Rattle.unicode_ident.proofs.IdentLemmas.{is_xid_start-ascii}
 use Rattle.litrs_base.specs.Characters.{is_scalar}
 use Rattle.litrs_base.specs.Text.{IsText, is_empty, first_passes}
-use Rattle.litrs_grammar.specs.Float.{is_period}
 use Rattle.litrs_grammar.specs.Integer.{IntegerParts, IsIntegerOf}
-use Rattle.litrs_grammar.specs.Literal.{Derivation, a_bool, an_integer, a_float, a_char, a_byte, a_string, a_byte_string, a_c_string, IsLiteral, literal_parse, Begins}
+use Rattle.litrs_grammar.specs.Literal.{Derivation, an_integer, IsLiteral, literal_parse, Begins}
 use Rattle.litrs_grammar.specs.Suffix.{starts_identifier}
-use Rattle.litrs_prefix.specs.Prefix.{may_follow, is_of_suffix, ends_suffix, ends_integer, keeps_period, HasPrefix}
+use Rattle.litrs_prefix.specs.Prefix.{may_follow, is_of_suffix, ends_suffix, ends_integer, HasPrefix}
 use Rattle.litrs_prefix.specs.GoesOn.{IsSettled, PrefixGoesOn, IsIntegerAndPeriod}
 use Rattle.litrs_prefix.proofs.LongerTexts.{whole, stays}
 use Rattle.litrs_prefix.proofs.Unique.{unique}
@@ -34,32 +34,15 @@ split (y ∷ a) b (x ∷ c) d h =
 text_of : (m b : List ℕ) → IsText (m ++ b) → IsText m
 text_of m b h = (and_parts (list_all is_scalar m) _ (sym (list_all-append is_scalar m b) ∙ h)).0
 
--- a period that may follow by more text alone
-took : (p keeps none : Bool) → not ((p && not keeps) && none) ≡ true → not ((p && true) && none) ≡ false → (p ≡ true) × (none ≡ true)
-took true keeps true h g = (refl, refl)
-took true keeps false h g = cc
-took false keeps none h g = cc
-
-not_after : (a b b' : Bool) → (a && b') ≡ true → (a && b) ≡ false → (b' ≡ true) × (b ≡ false)
-not_after true b b' h g = (h, g)
-not_after false b b' h g = cc
-
 -- a rest that may follow only with more text is a period, after an integer without suffix
+taken_period : (d : IntegerParts) (x : ℕ) (m more : List ℕ) → may_follow (an_integer d) (x ∷ (m ++ more)) ≡ true → may_follow (an_integer d) (x ∷ m) ≡ false →
+    (x ≡ 46) × (m ≡ []) × (is_empty d.suffix ≡ true)
+taken_period d x m more h g = grind (arith, nat_tests)
+
 by_more : (d : Derivation) (x : ℕ) (m more : List ℕ) → may_follow d (x ∷ (m ++ more)) ≡ true → may_follow d (x ∷ m) ≡ false →
     (e : IntegerParts) × (d ≡ an_integer e) × (x ≡ 46) × (m ≡ []) × (is_empty e.suffix ≡ true)
-by_more (a_bool b) x m more h g = absurd (true≢false (sym h ∙ g))
-by_more (a_float d) x m more h g = absurd (true≢false (sym h ∙ g))
-by_more (a_char d) x m more h g = absurd (true≢false (sym h ∙ g))
-by_more (a_byte d) x m more h g = absurd (true≢false (sym h ∙ g))
-by_more (a_string d) x m more h g = absurd (true≢false (sym h ∙ g))
-by_more (a_byte_string d) x m more h g = absurd (true≢false (sym h ∙ g))
-by_more (a_c_string d) x m more h g = absurd (true≢false (sym h ∙ g))
-by_more (an_integer d) x (y ∷ m) more h g = absurd (true≢false (sym h ∙ g))
-by_more (an_integer d) x [] more h g =
-    let outer = not_after _ _ _ h g in
-    let inner = not_after _ _ _ outer.0 outer.1 in
-    let both = took (is_period x) (keeps_period more) (is_empty d.suffix) inner.0 inner.1 in
-    (d, refl, eqb-true x 46 both.0, refl, both.1)
+by_more (an_integer d) x m more h g = let p = taken_period d x m more h g in (d, refl, p.0, p.1, p.2)
+by_more d x m more h g = absurd (true≢false (sym h ∙ g))
 
 -- a longer text with a literal at its front
 goes_on_by : (t more : List ℕ) (d : Derivation) (rest : List ℕ) → (IsSettled t → ⊥) → IsText more → HasPrefix (t ++ more) d rest → Begins literal_parse t ⊎ IsIntegerAndPeriod t

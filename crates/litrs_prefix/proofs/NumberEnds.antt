@@ -10,7 +10,7 @@ use Rattle.std.proofs.lemmas.Str.{IsCharBoundary-from_drop}
 use Rattle.litrs_base.specs.Base.{prefix, is_digit_or_underscore}
 use Rattle.litrs_base.specs.Text.{first_passes, is_empty}
 use Rattle.litrs_base.specs.declared.integer.IntegerBase.{IntegerBase}
-use Rattle.litrs_base.specs.declared.integer.IntegerBase.TheVariants.{Binary, Octal, Decimal, Hexadecimal}
+use Rattle.litrs_base.specs.declared.integer.IntegerBase.TheVariants.{Decimal}
 use Rattle.litrs_base.proofs.Chars.{OnlyAscii, passing_front, prefix_len-chars}
 use Rattle.litrs_base.proofs.Runs.{list_all-append, list_all-weaken}
 use Rattle.litrs_grammar.specs.Float.{is_decimal_char}
@@ -46,19 +46,16 @@ digits_front bs u = ascii_front is_decimal_char decimals_are_ascii bs u
 
 after_base : (base : IntegerBase) (m y a : List ℕ) → list_all (is_digit_or_underscore base) m ≡ true → first_passes (is_digit_or_underscore base) y ≡ false →
     after_digits (prefix base ++ (m ++ y)) ≡ 46 ∷ a → y ≡ 46 ∷ a
-after_base Binary m y a digits ends at = absurd (heads_differ 98 46 (m ++ y) a at refl)
-after_base Octal m y a digits ends at = absurd (heads_differ 111 46 (m ++ y) a at refl)
-after_base Hexadecimal m y a digits ends at = absurd (heads_differ 120 46 (m ++ y) a at refl)
 after_base Decimal m y a digits ends at =
     let p = is_digit_or_underscore Decimal in
     sym (drop_at m y (prefix_len p (m ++ y)) (sym (prefix_len_front p m y digits ends))) ∙ at
+after_base base m y a digits ends at = absurd (heads_differ _ 46 _ a at refl)
 
-kept : (k : Bool) → not (not k && true) ≡ true → k ≡ true
-kept true h = refl
-kept false h = absurd (false≢true h)
+kept : (a r : List ℕ) → not (gives_period r && true) ≡ true → r ≡ 46 ∷ a → keeps_period a ≡ true
+kept a r h at = grind arith
 
 rest_period : (x r a : List ℕ) → is_suffix x ≡ true → not (gives_period r && is_empty x) ≡ true → x ++ r ≡ 46 ∷ a → (keeps_period a ≡ true) × (46 ∷ a ≡ r)
-rest_period [] r a h g at = (kept (keeps_period a) (subst (λ (z : List ℕ). not (gives_period z && true) ≡ true) at g), sym at)
+rest_period [] r a h g at = (kept a r g at, sym at)
 rest_period (c ∷ x) r a h g at = absurd (heads_differ c 46 (x ++ r) a at (suffix_no_period (c ∷ x) h))
 
 pub integer_period : (t l r a : List ℕ) (d : IntegerParts) → l ++ r ≡ t → IsIntegerOf l d → ends_suffix d.suffix r ≡ true → ends_integer d r ≡ true → after_digits t ≡ 46 ∷ a →
@@ -98,16 +95,10 @@ only_at_fraction t a at_period digit = λ d r at. elim (only_rest t d r at) [
 -- an integer without a suffix has only characters of names
 
 prefix_words : (base : IntegerBase) → list_all is_word (prefix base) ≡ true
-prefix_words Binary = refl
-prefix_words Octal = refl
-prefix_words Decimal = refl
-prefix_words Hexadecimal = refl
+prefix_words base = grind arith
 
 digit_word : (base : IntegerBase) (c : ℕ) → is_digit_or_underscore base c ≡ true → is_word c ≡ true
-digit_word Binary c h = grind (arith, nat_tests)
-digit_word Octal c h = grind (arith, nat_tests)
-digit_word Decimal c h = grind (arith, nat_tests)
-digit_word Hexadecimal c h = grind (arith, nat_tests)
+digit_word base c h = grind (arith, nat_tests)
 
 words : (l : List ℕ) (x : IntegerParts) → IsIntegerOf l x → x.suffix ≡ [] → list_all is_word l ≡ true
 words l x h bare =
@@ -116,8 +107,7 @@ words l x h bare =
     (list_all-append is_word x.main x.suffix (list_all-weaken (is_digit_or_underscore x.base) is_word (digit_word x.base) x.main h.grammar.digits) (ap (list_all is_word) bare)))
 
 word_ends : (r : List ℕ) → ends_suffix [] r ≡ true → first_passes is_ascii_digit r ≡ false → first_passes is_word r ≡ false
-word_ends [] e d = refl
-word_ends (c ∷ r) e d = let n = no_start c (not-true _ e) in grind (arith, nat_tests)
+word_ends r e d = grind (arith, nat_tests, no_start)
 
 judged_so : (D : Type 0) (Derives : D → Type 0) (ends : D → Bool) (x : D) (o : Option Bool) → ((y : D) → Derives y → y ≡ x) → Derives x → ends x ≡ true → IsJudgedBy Derives ends o → o ≡ Some true
 judged_so D Derives ends x None only h e j = absurd (j x h)

@@ -1,10 +1,10 @@
 -- Numbers whose digits are followed by a letter.
-use Rattle.std.proofs.Common.{◌≡◌, ℕ, suc, ◌+◌, ◌-◌, ◌<◌, Bool, true, false, not, ◌&&◌, cond, List, [], ◌∷◌, ◌++◌, length, take, drop, Option, Some, None, refl, sym, ap, subst, ◌∙◌, inl, inr, length-drop, arith}
-use Rattle.std.specs.Prelude.{◌==◌, ◌||◌, nat_le}
+use Rattle.std.proofs.Common.{◌≡◌, ℕ, ◌-◌, ◌<◌, Bool, true, false, not, ◌&&◌, List, [], ◌∷◌, ◌++◌, length, take, drop, Option, Some, None, refl, sym, ap, subst, ◌∙◌, inl, inr, length-drop, arith}
+use Rattle.std.specs.Prelude.{◌==◌, nat_le}
 use Rattle.std.specs.Char.{is_ascii_digit, is_ascii_alphabetic}
 use Rattle.std.specs.List.{prefix_len, list_all}
 use Rattle.std.specs.Str.{chars, IsUtf8}
-use Rattle.std.proofs.lemmas.Bool.{and_parts, or_cases, or_from, eqb-true, ne_eqb, true≢false, false≢true, not-true}
+use Rattle.std.proofs.lemmas.Bool.{and_parts, or_right, or_from, ne_eqb, true≢false, false≢true, not-true}
 use Rattle.std.proofs.lemmas.Bool.Decides.{nat_tests}
 use Rattle.std.proofs.lemmas.List.{drop_at}
 use Rattle.std.proofs.lemmas.Str.{IsUtf8-drop}
@@ -13,17 +13,13 @@ use Rattle.unicode_ident.proofs.IdentLemmas.{is_xid_start-ascii, is_xid_continue
 use Rattle.litrs_base.specs.Base.{prefix, is_digit_or_underscore}
 use Rattle.litrs_base.specs.Derivations.{HasNoDerivation}
 use Rattle.litrs_base.specs.declared.integer.IntegerBase.{IntegerBase}
-use Rattle.litrs_base.specs.declared.integer.IntegerBase.TheVariants.{Binary, Octal, Decimal, Hexadecimal}
-use Rattle.litrs_base.specs.declared.quotes.CharKind.TheVariants.{Char as char_kind, Byte as byte_kind}
-use Rattle.litrs_base.specs.declared.quotes.StringKind.{StringKind}
-use Rattle.litrs_base.specs.declared.quotes.StringKind.TheVariants.{String as string_kind, ByteString as byte_string_kind, CString as c_string_kind}
+use Rattle.litrs_base.specs.declared.integer.IntegerBase.TheVariants.{Decimal}
 use Rattle.litrs_base.specs.Text.{first_passes}
 use Rattle.litrs_base.proofs.Chars.{OnlyAscii, first_passes-chars}
 use Rattle.litrs_base.proofs.ListTests.{if_true, if_false}
-use Rattle.litrs_grammar.specs.Bool.{bool_text}
 use Rattle.litrs_grammar.specs.Float.{IsFloatOf, is_decimal_char, is_period}
 use Rattle.litrs_grammar.specs.Integer.{IntegerParts, IsIntegerOf, is_e}
-use Rattle.litrs_grammar.specs.Literal.{Derivation, a_bool, an_integer, a_float, a_char, a_byte, a_string, a_byte_string, a_c_string, IsLiteral, IsString, StringParts, quoted_parts, raw_parts}
+use Rattle.litrs_grammar.specs.Literal.{Derivation, an_integer, IsLiteral}
 use Rattle.litrs_grammar.specs.LiteralRefusals.{is_float_mark, begins_float}
 use Rattle.litrs_grammar.specs.Suffix.{starts_identifier}
 use Rattle.litrs_grammar.proofs.Laws.Integer.{prefix_len_front}
@@ -36,16 +32,15 @@ use Rattle.litrs_prefix.specs.Extent.{IsMalformedLen, IsJudged, IsJudgedBy}
 use Rattle.litrs_prefix.specs.Meant.{after_opened}
 use Rattle.litrs_prefix.specs.Opens.{after_run, after_name, opens}
 use Rattle.litrs_prefix.specs.Prefix.{ends_suffix, ends_integer, HasPrefix}
-use Rattle.litrs_prefix.proofs.Extents.{char_digit, quoted_digit, raw_digit}
 use Rattle.litrs_prefix.proofs.Judged.{integer_before, number_before, judged_none, malformed_piece}
-use Rattle.litrs_prefix.proofs.LongerTexts.{whole}
 use Rattle.litrs_prefix.proofs.Meant.{number_parts}
 use Rattle.litrs_prefix.proofs.MeantEnds.{OpenedAt, opened_at}
 use Rattle.litrs_prefix.proofs.Numbers.{longer_integer, stops}
 use Rattle.litrs_prefix.proofs.OnlyRest.{only_rest, number_body}
-use Rattle.litrs_prefix.proofs.Opened.{opened}
+use Rattle.litrs_prefix.proofs.OpenedStays.{digits_grow}
 use Rattle.litrs_prefix.proofs.Pieces.{parts_spell}
-use Rattle.litrs_prefix.proofs.Runs.{name_cut, name_ends}
+use Rattle.litrs_prefix.proofs.Runs.{name_cut, name_ends, run_past}
+use Rattle.litrs_prefix.proofs.Unique.{number_of}
 
 -- a text that is parsed as an integer
 
@@ -54,43 +49,21 @@ pub integer_alone : (bs r : List ℕ) (o : Option Bool) → IsUtf8 bs → IsFron
 integer_alone bs r (Some b) u is none h = integer_before (chars bs) r b h
 integer_alone bs r None u is none h = number_before bs r None u is h (λ d f. true≢false (sym (float_begins (chars bs) d f) ∙ none))
 
--- a text that begins with a digit is a number or no literal
-
-bool_digit : (b : Bool) → first_passes is_ascii_digit (bool_text b) ≡ false
-bool_digit true = refl
-bool_digit false = refl
-
-string_digit : (kind : StringKind) (t : List ℕ) (x : StringParts) → IsString kind t x → first_passes is_ascii_digit t ≡ false
-string_digit kind t (quoted_parts q) h = quoted_digit kind t _ (sym h.spells)
-string_digit kind t (raw_parts q) h = raw_digit kind t _ (sym h.spells)
-
-pub no_number : (t : List ℕ) → first_passes is_ascii_digit t ≡ true → HasNoDerivation (IsIntegerOf t) → HasNoDerivation (IsFloatOf t) → HasNoDerivation (IsLiteral t)
-no_number t digit integers floats (an_integer d) h = integers d h
-no_number t digit integers floats (a_float d) h = floats d h
-no_number t digit integers floats (a_bool b) h = true≢false (sym digit ∙ (ap (first_passes is_ascii_digit) (sym h) ∙ bool_digit b))
-no_number t digit integers floats (a_char d) h = true≢false (sym digit ∙ char_digit char_kind t _ (sym h.spells))
-no_number t digit integers floats (a_byte d) h = true≢false (sym digit ∙ char_digit byte_kind t _ (sym h.spells))
-no_number t digit integers floats (a_string x) h = true≢false (sym digit ∙ string_digit string_kind t x h)
-no_number t digit integers floats (a_byte_string x) h = true≢false (sym digit ∙ string_digit byte_string_kind t x h)
-no_number t digit integers floats (a_c_string x) h = true≢false (sym digit ∙ string_digit c_string_kind t x h)
-
 -- before an exponent
+
+letter_starts : (c : ℕ) → is_ascii_alphabetic c ≡ true → starts_identifier c ≡ true
+letter_starts c h = (let low : c < 128 = grind (arith, nat_tests) in or_right (c == 95) _ (is_xid_start-ascii c low ∙ h))
 
 e_starts : (r : List ℕ) → first_passes is_e r ≡ true → first_passes starts_identifier r ≡ true
 e_starts [] h = absurd (false≢true h)
-e_starts (c ∷ r) h = elim (or_cases (c == 101) (c == 69) h) [
-  | inl small ↦ subst (λ (k : ℕ). starts_identifier k ≡ true) (sym (eqb-true c 101 small)) (is_xid_start-ascii 101 (omega arith))
-  | inr great ↦ subst (λ (k : ℕ). starts_identifier k ≡ true) (sym (eqb-true c 69 great)) (is_xid_start-ascii 69 (omega arith))
-]
+e_starts (c ∷ r) h = letter_starts c (grind (arith, nat_tests))
 
 bare_rest : (base : IntegerBase) (m r : List ℕ) → list_all (is_digit_or_underscore base) m ≡ true → first_passes (is_digit_or_underscore base) r ≡ false →
     first_passes is_e (after_digits (prefix base ++ (m ++ r))) ≡ true → first_passes is_e r ≡ true
-bare_rest Binary m r digits ends h = absurd (false≢true h)
-bare_rest Octal m r digits ends h = absurd (false≢true h)
-bare_rest Hexadecimal m r digits ends h = absurd (false≢true h)
 bare_rest Decimal m r digits ends h =
     let p = is_digit_or_underscore Decimal in
     ap (first_passes is_e) (sym (drop_at m r (prefix_len p (m ++ r)) (sym (prefix_len_front p m r digits ends)))) ∙ h
+bare_rest base m r digits ends h = absurd (false≢true h)
 
 bare_e : (l r : List ℕ) (x : IntegerParts) → IsIntegerOf l x → x.suffix ≡ [] → ends_suffix x.suffix r ≡ true → ends_integer x r ≡ true → first_passes is_e (after_digits (l ++ r)) ≡ true → ⊥
 bare_e l r x h bare e f mark =
@@ -122,34 +95,11 @@ only_at_e t mark = λ d r at. elim (only_rest t d r at) [
 letter_continues : (c : ℕ) → is_ascii_alphabetic c ≡ true → is_xid_continue c ≡ true
 letter_continues c h = let low : c < 128 = grind (arith, nat_tests) in is_xid_continue-ascii c low ∙ grind (arith, nat_tests)
 
-letter_starts : (c : ℕ) → is_ascii_alphabetic c ≡ true → starts_identifier c ≡ true
-letter_starts c h =
-    let low : c < 128 = grind (arith, nat_tests) in
-    ap (λ (v : Bool). (c == 95) || v) (is_xid_start-ascii c low ∙ h) ∙ or_true (c == 95)
-  where
-    or_true : (v : Bool) → (v || true) ≡ true
-    or_true true = refl
-    or_true false = refl
-
 letter_no_period : (c : ℕ) → is_ascii_alphabetic c ≡ true → is_period c ≡ false
 letter_no_period c h = grind (arith, nat_tests)
 
 decimal_continues : (c : ℕ) → is_decimal_char c ≡ true → is_xid_continue c ≡ true
 decimal_continues c h = let low : c < 128 = grind (arith, nat_tests) in is_xid_continue-ascii c low ∙ grind (arith, nat_tests)
-
-skip_more : (c : ℕ) (n : ℕ) (t : List ℕ) → drop (1 + n) (c ∷ t) ≡ drop n t
-skip_more c n t = let e : 1 + n ≡ suc n = omega arith in ap (λ (k : ℕ). drop k (c ∷ t)) e
-
-run_after_digits : (t : List ℕ) → after_run t ≡ after_run (after_digits t)
-run_after_digits [] = refl
-run_after_digits (c ∷ t) = go (is_decimal_char c) refl (run_after_digits t)
-  where
-    go : (b : Bool) → is_decimal_char c ≡ b → after_run t ≡ after_run (after_digits t) →
-        after_run (c ∷ t) ≡ after_run (drop (cond b (1 + prefix_len is_decimal_char t) 0) (c ∷ t))
-    go true e rec =
-        if_true (is_xid_continue c) (after_run t) (c ∷ t) (decimal_continues c e)
-        ∙ (rec ∙ ap after_run (sym (skip_more c (prefix_len is_decimal_char t) t)))
-    go false e rec = refl
 
 -- the name from the letter on
 name_there : (y : List ℕ) → first_passes is_other_letter y ≡ true → after_name (after_exponent (after_fraction y)) ≡ after_run y
@@ -165,28 +115,28 @@ pub word_opened : (bs rest : List ℕ) (n : ℕ) → IsUtf8 bs → n ≡ prefix_
 word_opened bs rest n u count back narrow digit letter =
     let t = chars bs in
     name_ends bs rest n u count back narrow
-    ∙ (run_after_digits t ∙ sym (ap after_name (number_body t digit ∙ number_parts t) ∙ name_there (after_digits t) letter))
+    ∙ (run_past is_decimal_char decimal_continues t ∙ sym (ap after_name (number_body t digit ∙ number_parts t) ∙ name_there (after_digits t) letter))
 
 -- the text after the digits of the front is that after the digits of the text
-front_mark : (p q : ℕ → Bool) (l r : List ℕ) → first_passes q (drop (prefix_len p (l ++ r)) (l ++ r)) ≡ false → first_passes q (drop (prefix_len p l) l) ≡ false
-front_mark p q [] r h = refl
-front_mark p q (c ∷ l) r h = go (p c) refl (front_mark p q l r) h
+front_mark : (q : ℕ → Bool) (l r : List ℕ) → first_passes q (after_digits (l ++ r)) ≡ false → first_passes q (after_digits l) ≡ false
+front_mark q l r h = elim (digits_grow l r) [
+  | inl is ↦ shorter (after_digits l) (ap (first_passes q) (sym is) ∙ h)
+  | inr is ↦ ap (first_passes q) is.0
+]
   where
-    go : (b : Bool) → p c ≡ b → (first_passes q (drop (prefix_len p (l ++ r)) (l ++ r)) ≡ false → first_passes q (drop (prefix_len p l) l) ≡ false) →
-        first_passes q (drop (cond b (1 + prefix_len p (l ++ r)) 0) (c ∷ (l ++ r))) ≡ false →
-        first_passes q (drop (cond b (1 + prefix_len p l) 0) (c ∷ l)) ≡ false
-    go true e rec g =
-        ap (first_passes q) (skip_more c (prefix_len p l) l)
-        ∙ rec (ap (first_passes q) (sym (skip_more c (prefix_len p (l ++ r)) (l ++ r))) ∙ g)
-    go false e rec g = g
+    shorter : (x : List ℕ) → first_passes q (x ++ r) ≡ false → first_passes q x ≡ false
+    shorter [] h = refl
+    shorter (c ∷ x) h = h
 
 no_mark : (y : List ℕ) → first_passes is_other_letter y ≡ true → first_passes is_float_mark y ≡ false
 no_mark [] h = absurd (false≢true h)
 no_mark (c ∷ y) h = let p = and_parts (is_ascii_alphabetic c) (not (is_e c)) h in rw (letter_no_period c p.0, not-true _ p.1) refl
 
 number_front : (l r t : List ℕ) → l ++ r ≡ t → first_passes is_ascii_digit t ≡ true → HasNoDerivation (IsIntegerOf l) → HasNoDerivation (IsFloatOf l) → HasNoDerivation (IsLiteral l)
-number_front [] r t spells digit integers floats = λ d h. false≢true (opened [] d [] (whole [] d h))
-number_front (c ∷ l) r t spells digit integers floats = no_number (c ∷ l) (ap (first_passes is_ascii_digit) spells ∙ digit) integers floats
+number_front l r t spells digit integers floats = λ d h. elim (number_of l r d h (ap (first_passes is_ascii_digit) spells ∙ digit)) [
+  | inl x ↦ integers x.0 (subst (λ (e : Derivation). IsLiteral l e) x.1 h)
+  | inr x ↦ floats x.0 (subst (λ (e : Derivation). IsLiteral l e) x.1 h)
+]
 
 pub word_malformed : (bs f rest : List ℕ) (n : ℕ) → IsUtf8 bs → n ≡ prefix_len is_word bs → f ≡ take n bs → rest ≡ drop n bs → first_passes (nat_le 128) rest ≡ false →
     opens (chars bs) ≡ true → first_passes is_ascii_digit (chars bs) ≡ true → first_passes is_other_letter (after_digits (chars bs)) ≡ true → IsOnlyRest (chars bs) (after_opened (chars bs)) →
@@ -203,7 +153,7 @@ word_malformed bs f rest n u count before back narrow opens_at digit letter only
     let at : OpenedAt bs n = subst (λ (k : ℕ). OpenedAt bs k) place both.1 in
     let spells : chars f ++ chars rest ≡ t = parts_spell bs f rest n u bound before back in
     let mark : begins_float (chars f) ≡ false =
-    front_mark is_decimal_char is_float_mark (chars f) (chars rest) (ap (λ (l : List ℕ). first_passes is_float_mark (after_digits l)) spells ∙ no_mark (after_digits t) letter) in
+    front_mark is_float_mark (chars f) (chars rest) (ap (λ (l : List ℕ). first_passes is_float_mark (after_digits l)) spells ∙ no_mark (after_digits t) letter) in
     let floats : HasNoDerivation (IsFloatOf (chars f)) = λ d h. true≢false (sym (float_begins (chars f) d h) ∙ mark) in
     let invalid : HasNoDerivation (IsLiteral (chars f)) = number_front (chars f) (chars rest) t spells digit integers floats in
     let here : IsOnlyRest t (chars (drop n bs)) = λ d r h. only d r h ∙ sym at.rest in

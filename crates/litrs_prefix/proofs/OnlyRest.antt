@@ -3,7 +3,7 @@ use Rattle.std.proofs.Common.{◌≡◌, ◌⊎◌, inl, inr, ℕ, ◌+◌, ◌<
 use Rattle.std.specs.Prelude.{◌==◌}
 use Rattle.std.specs.Char.{is_ascii_digit, is_ascii_hexdigit}
 use Rattle.std.specs.List.{list_all}
-use Rattle.std.proofs.lemmas.Bool.{and_parts, and_from, and_right, not-true, false≢true}
+use Rattle.std.proofs.lemmas.Bool.{and_parts, and_from, not-true}
 use Rattle.std.proofs.lemmas.Bool.Decides.{nat_tests}
 use Rattle.unicode_ident.specs.Ident.{is_xid_continue}
 use Rattle.unicode_ident.proofs.IdentLemmas.{is_xid_start-ascii, is_xid_continue-ascii}
@@ -88,10 +88,7 @@ plain_passed c t q s = rw (q, s) refl
 run_passed : (p : ℕ → Bool) → ((c : ℕ) → p c ≡ true → ((c == 34) ≡ false) × ((c == 92) ≡ false)) → (a t : List ℕ) → list_all p a ≡ true →
     past_quote 34 false (a ++ t) ≡ past_quote 34 false t
 run_passed p only [] t h = refl
-run_passed p only (c ∷ a) t h =
-    let both = and_parts (p c) (list_all p a) h in
-    let none = only c both.0 in
-    plain_passed c (a ++ t) none.0 none.1 ∙ run_passed p only a t both.1
+run_passed p only (c ∷ a) t h = grind (arith, only c, run_passed p only a t)
 
 inner_none : (c : ℕ) → is_inner c ≡ true → ((c == 34) ≡ false) × ((c == 92) ≡ false)
 inner_none c h = let p = and_parts _ _ (and_parts _ _ h).0 in (not-true _ (and_parts _ _ p.0).0, not-true _ p.1)
@@ -99,13 +96,13 @@ inner_none c h = let p = and_parts _ _ (and_parts _ _ h).0 in (not-true _ (and_p
 blank_none : (c : ℕ) → is_blank c ≡ true → ((c == 34) ≡ false) × ((c == 92) ≡ false)
 blank_none c h = (grind (arith, nat_tests), grind (arith, nat_tests))
 
+second_passed : (c : ℕ) (t : List ℕ) → past_quote 34 true (c ∷ t) ≡ past_quote 34 false t
+second_passed c t = grind arith
+
 escape_passed : (w : Switches) (e : Escape) (t : List ℕ) → is_escape w e ≡ true → past_quote 34 false (escape_text e ++ t) ≡ past_quote 34 false t
 escape_passed w e t h =
     let is = tail_of w e h in
-    ap (λ (l : List ℕ). past_quote 34 false (l ++ t)) is.spells
-    ∙ (if_false ((is.second == 34) && false) (is.tail ++ t) (past_quote 34 ((is.second == 92) && false) (is.tail ++ t)) (and_right (is.second == 34) false refl)
-    ∙ (ap (λ (v : Bool). past_quote 34 v (is.tail ++ t)) (and_right (is.second == 92) false refl)
-    ∙ run_passed is_inner inner_none is.tail t is.inner))
+    ap (λ (l : List ℕ). past_quote 34 false (l ++ t)) is.spells ∙ (second_passed is.second (is.tail ++ t) ∙ run_passed is_inner inner_none is.tail t is.inner)
 
 pub item_passed : (w : Switches) (a : Item) (t : List ℕ) → is_item w a ≡ true → past_quote 34 false (item_text a ++ t) ≡ past_quote 34 false t
 item_passed w (plain_item c) t h =
@@ -122,9 +119,7 @@ body_passed w (a ∷ items) x h =
     ∙ (item_passed w a (body_text items ++ 34 ∷ x) (and_parts _ _ p.0).0 ∙ body_passed w items x p.1)
 
 pub quoted_body : (kind : StringKind) (y : List ℕ) → after_body (quoted_front kind ++ y) ≡ after_quoted y
-quoted_body string_kind y = refl
-quoted_body byte_string_kind y = refl
-quoted_body c_string_kind y = refl
+quoted_body kind y = grind arith
 
 quoted_rest : (kind : StringKind) (s r : List ℕ) (q : QuotedParts) → IsQuotedLiteral kind s q → ends_suffix q.suffix r ≡ true → after_opened (s ++ r) ≡ r
 quoted_rest kind s r q h e =
@@ -136,14 +131,10 @@ quoted_rest kind s r q h e =
 
 line_passed : (a t : List ℕ) → list_all is_inner a ≡ true → past_single_quote false (a ++ t) ≡ past_single_quote false t
 line_passed [] t h = refl
-line_passed (c ∷ a) t h =
-    let p = and_parts (is_inner c) (list_all is_inner a) h in
-    let q = and_parts _ _ p.0 in
-    let s = and_parts _ _ q.0 in
-    let feed : (c == 10) ≡ false = not-true _ q.1 in
-    let quote : (c == 39) ≡ false = not-true _ (and_parts _ _ s.0).1 in
-    let slash : (c == 92) ≡ false = not-true _ s.1 in
-    rw (feed, quote, slash) (line_passed a t p.1)
+line_passed (c ∷ a) t h = grind (arith, line_passed a t)
+
+line_second : (c : ℕ) (t : List ℕ) → (c == 10) ≡ false → past_single_quote true (c ∷ t) ≡ past_single_quote false t
+line_second c t h = grind arith
 
 item_closed : (kind : CharKind) (a : CharItem) (x : List ℕ) → is_char_item kind a ≡ true → after_char (char_item_text a ++ 39 ∷ x) ≡ x
 item_closed kind (plain_char c) x h =
@@ -151,17 +142,11 @@ item_closed kind (plain_char c) x h =
     if_true (not (c == 92) && true) x _ (and_from _ _ p.1 refl)
 item_closed kind (escaped_char e) x h =
     let is = tail_of _ e h in
-    let y : List ℕ = is.tail ++ 39 ∷ x in
     ap (λ (l : List ℕ). after_char (l ++ 39 ∷ x)) is.spells
-    ∙ (sym (past_single_quote_is (92 ∷ is.second ∷ y))
-    ∙ (if_false (is.second == 10) (is.second ∷ y) _ is.same_line
-    ∙ (if_false ((is.second == 39) && false) y _ (and_right (is.second == 39) false refl)
-    ∙ (ap (λ (v : Bool). past_single_quote v y) (and_right (is.second == 92) false refl)
-    ∙ line_passed is.tail (39 ∷ x) is.inner))))
+    ∙ (sym (past_single_quote_is (92 ∷ is.second ∷ (is.tail ++ 39 ∷ x))) ∙ (line_second is.second (is.tail ++ 39 ∷ x) is.same_line ∙ line_passed is.tail (39 ∷ x) is.inner))
 
 char_body : (kind : CharKind) (y : List ℕ) → after_body (char_front kind ++ y) ≡ after_char y
-char_body char_kind y = refl
-char_body byte_kind y = refl
+char_body kind y = grind arith
 
 char_rest : (kind : CharKind) (s r : List ℕ) (d : CharParts) → IsCharLiteral kind s d → ends_suffix d.suffix r ≡ true → after_opened (s ++ r) ≡ r
 char_rest kind s r d h e =
@@ -178,9 +163,7 @@ raw_closed n body x h =
     ∙ (ap (λ (k : ℕ). drop (k + (1 + n)) z) (length_before-body n body x h) ∙ raw.after_closing n body x))
 
 pub raw_body : (kind : StringKind) (y : List ℕ) → opens_raw y ≡ true → after_body (raw_front kind ++ y) ≡ after_raw y
-raw_body string_kind y h = rw h refl
-raw_body byte_string_kind y h = rw h refl
-raw_body c_string_kind y h = rw h refl
+raw_body kind y h = grind arith
 
 raw_rest : (kind : StringKind) (s r : List ℕ) (d : RawParts) → IsRawLiteral kind s d → ends_suffix d.suffix r ≡ true → after_opened (s ++ r) ≡ r
 raw_rest kind s r d h e =
@@ -197,14 +180,12 @@ string_rest kind s r (raw_parts d) h e = raw_rest kind s r d h e
 -- bools
 
 bool_body : (b : Bool) (r : List ℕ) → after_body (bool_text b ++ r) ≡ bool_text b ++ r
-bool_body true r = refl
-bool_body false r = refl
+bool_body b r = grind arith
 
 -- numbers
 
 pub number_body : (t : List ℕ) → first_passes is_ascii_digit t ≡ true → after_body t ≡ after_number t
-number_body [] h = absurd (false≢true h)
-number_body (c ∷ t) h = if_true (is_ascii_digit c) (after_number (c ∷ t)) _ h
+number_body t h = grind arith
 
 float_rest : (s r : List ℕ) (d : FloatParts) → IsFloatOf s d → ends_suffix d.suffix r ≡ true → ends_float d r ≡ true → after_opened (s ++ r) ≡ r
 float_rest s r d h e f =
@@ -214,10 +195,7 @@ float_rest s r d h e f =
     ap after_name (number_body (s ++ r) digit ∙ number) ∙ name_after d.suffix r h.grammar.suffix e
 
 word_continues : (base : IntegerBase) (c : ℕ) → is_digit_or_underscore base c ≡ true → is_xid_continue c ≡ true
-word_continues Binary c h = let low : c < 128 = grind (arith, nat_tests) in is_xid_continue-ascii c low ∙ grind (arith, nat_tests)
-word_continues Octal c h = let low : c < 128 = grind (arith, nat_tests) in is_xid_continue-ascii c low ∙ grind (arith, nat_tests)
-word_continues Decimal c h = let low : c < 128 = grind (arith, nat_tests) in is_xid_continue-ascii c low ∙ grind (arith, nat_tests)
-word_continues Hexadecimal c h = let low : c < 128 = grind (arith, nat_tests) in is_xid_continue-ascii c low ∙ grind (arith, nat_tests)
+word_continues base c h = let low : c < 128 = grind (arith, nat_tests) in is_xid_continue-ascii c low ∙ grind (arith, nat_tests)
 
 -- the letter of a base, its digits and the suffix are one name
 letter_rest : (base : IntegerBase) (b : ℕ) (m : List ℕ) (c : ℕ) (x r : List ℕ) → starts_identifier b ≡ true → list_all (is_digit_or_underscore base) m ≡ true →

@@ -1,10 +1,10 @@
 -- A piece at the front of a text that is refused.
 use Rattle.std.proofs.Common.{◌≡◌, ◌⊎◌, ℕ, ◌+◌, ◌<◌, ◌^◌, List, ◌++◌, length, take, drop, None, true, sym, ap, subst, inl, inr, ◌∙◌, append_assoc, length-take, length-drop, [], ◌∷◌, ◌-◌, ◌≤◌, refl, arith}
 use Rattle.std.specs.Str.{chars, IsUtf8, IsCharBoundary}
-use Rattle.std.specs.Prelude.{encode_utf8, encode_utf8_all}
-use Rattle.std.proofs.lemmas.Str.{chars-append, chars-nil, encode_ascii, encodes-chars, encodes-IsAscii, IsUtf8-take}
-use Rattle.litrs_base.proofs.Chars.{ascii_by_test, chars_ascii}
-use Rattle.std.proofs.lemmas.Bool.{eqb-true, false≢true}
+use Rattle.std.specs.Prelude.{encode_utf8_all}
+use Rattle.std.proofs.lemmas.Str.{chars-append, chars-nil, encodes-chars, encodes-IsAscii, IsUtf8-take}
+use Rattle.litrs_base.proofs.Chars.{OnlyAscii, ascii_by_test, chars_ascii, first_passes-chars}
+use Rattle.std.proofs.lemmas.Bool.{eqb-true, ne_eqb, false≢true}
 use Rattle.std.proofs.lemmas.List.{take-append-drop, append_cancel_right}
 use Rattle.litrs_base.specs.declared.err.ParseError.{ParseError}
 use Rattle.litrs_base.specs.Text.{byte_len, first_passes}
@@ -129,24 +129,14 @@ last_period bs front u is =
       omega (arith, length-drop {A = ℕ}),
     )
 
-nothing_left : (l : List ℕ) → length l ≡ 0 → l ≡ []
-nothing_left [] h = refl
-nothing_left (x ∷ l) h = absurd (omega arith)
+period_is_ascii : OnlyAscii is_period
+period_is_ascii c wide = ne_eqb c 46 (λ e. omega arith)
 
 -- one byte that begins with a period is a period
 pub one_period : (last : List ℕ) → IsUtf8 last → length last ≡ 1 → first_passes is_period (chars last) ≡ true → last ≡ 46 ∷ []
-one_period last u one h = go (chars last) refl h
-  where
-    go : (t : List ℕ) → chars last ≡ t → first_passes is_period t ≡ true → last ≡ 46 ∷ []
-    go [] is h = absurd (false≢true h)
-    go (c ∷ t) is h =
-        let same : c ≡ 46 = eqb-true c 46 h in
-        let bytes : last ≡ encode_utf8 c ++ encode_utf8_all t = sym (encodes-chars last u) ∙ ap encode_utf8_all is in
-        let first : encode_utf8 c ≡ 46 ∷ [] = ap encode_utf8 same ∙ encode_ascii 46 (omega arith) in
-        let whole : last ≡ 46 ∷ encode_utf8_all t = bytes ∙ ap (λ (l : List ℕ). l ++ encode_utf8_all t) first in
-        let size : length last ≡ length (46 ∷ encode_utf8_all t) = ap length whole in
-        let none : encode_utf8_all t ≡ [] = nothing_left (encode_utf8_all t) (omega arith) in
-        whole ∙ ap (λ (l : List ℕ). 46 ∷ l) none
+one_period [] u one h = absurd (omega arith)
+one_period (c ∷ []) u one h = ap (λ (k : ℕ). k ∷ []) (eqb-true c 46 (sym (first_passes-chars is_period (c ∷ []) period_is_ascii u) ∙ h))
+one_period (c ∷ d ∷ last) u one h = absurd (omega arith)
 
 pub before_period : (bs front last : List ℕ) (n : ℕ) → IsUtf8 bs → IsCharBoundary bs n → front ≡ take n bs → last ≡ drop n bs → last ≡ 46 ∷ [] → chars front ++ 46 ∷ [] ≡ chars bs
 before_period bs front last n u bound before after is =

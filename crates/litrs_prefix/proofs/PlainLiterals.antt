@@ -1,28 +1,28 @@
 -- Literals without a suffix, before a rest that neither begins nor continues a name.
-use Rattle.std.proofs.Common.{◌≡◌, inl, inr, ℕ, ◌+◌, ◌<◌, true, false, not, ◌&&◌, ◌||◌, cond, List, [], ◌∷◌, ◌++◌, drop, take, Some, refl, sym, ap, subst, ◌∙◌, append-nil, arith}
+use Rattle.std.proofs.Common.{◌≡◌, ℕ, true, false, not, ◌&&◌, ◌||◌, List, [], ◌∷◌, ◌++◌, drop, take, Some, refl, sym, ap, subst, ◌∙◌, append-nil, arith}
 use Rattle.std.specs.Prelude.{◌==◌, ⊤}
 use Rattle.std.specs.Char.{is_ascii, is_ascii_digit, is_ascii_alphanumeric}
 use Rattle.std.specs.List.{list_all, list_any, prefix_len, take_while}
 use Rattle.std.specs.Str.{chars, IsUtf8}
-use Rattle.std.proofs.lemmas.Bool.{and_parts, and_from, and_left, and_right, or_from, or_left, or_cases, or_parts, eqb-true, ne_eqb, not-true, true≢false, false≢true, false_from_ne_true}
+use Rattle.std.proofs.lemmas.Bool.{and_from, and_left, and_right, or_left, or_parts, eqb-true, false≢true}
 use Rattle.std.proofs.lemmas.Bool.Decides.{nat_tests}
 use Rattle.std.proofs.lemmas.List.{take-append-drop}
 use Rattle.std.proofs.lemmas.Str.{chars-nil}
-use Rattle.unicode_ident.specs.Ident.{is_xid_start, is_xid_continue}
+use Rattle.unicode_ident.specs.Ident.{is_xid_continue}
 use Rattle.unicode_ident.proofs.IdentLemmas.{is_xid_start-ascii, is_xid_continue-ascii, is_xid_start-is_xid_continue}
 use Rattle.litrs_base.specs.declared.integer.IntegerBase.TheVariants.{Decimal}
 use Rattle.litrs_base.specs.declared.quotes.CharKind.{CharKind}
 use Rattle.litrs_base.specs.declared.quotes.CharKind.TheVariants.{Char as char_kind, Byte as byte_kind}
 use Rattle.litrs_base.specs.declared.quotes.StringKind.{StringKind}
 use Rattle.litrs_base.specs.Quotes.{char_front, quoted_front, switches_of}
-use Rattle.litrs_base.specs.Text.{begins_with, first_passes}
+use Rattle.litrs_base.specs.Text.{first_passes}
 use Rattle.litrs_grammar.specs.Suffix.{starts_identifier}
 use Rattle.litrs_grammar.specs.Integer.{IntegerParts, IsIntegerOf, integer_text, has_prefix}
 use Rattle.litrs_grammar.specs.Float.{FloatParts, IsFloatOf, float_text, is_period, is_decimal_char, is_decimal_literal, is_float_form}
 use Rattle.litrs_grammar.specs.CharByte.{CharItem, char_item_text, CharParts, IsCharLiteral, is_char_item, char_text}
 use Rattle.litrs_grammar.specs.Quoted.{Item, QuotedParts, IsQuotedLiteral, body_text, is_item_list, quoted_text}
 use Rattle.litrs_grammar.specs.Literal.{Derivation, an_integer, a_float, a_char, a_byte, quoted_parts}
-use Rattle.litrs_grammar.proofs.Laws.Integer.{list_all-take_while, first_passes-rest, one_more}
+use Rattle.litrs_grammar.proofs.Laws.Integer.{list_all-take_while, first_passes-rest}
 use Rattle.litrs_grammar.proofs.QuotedItems.{stands_body}
 use Rattle.litrs_lex.specs.Reading.{IsItemsEnd}
 use Rattle.litrs_lex.proofs.SuffixBytes.{is_suffix-nil}
@@ -40,23 +40,15 @@ HasLiteral t r = (d : Derivation) × HasPrefix t d r
 -- the rest
 
 starts_continue : (c : ℕ) → starts_identifier c ≡ true → is_xid_continue c ≡ true
-starts_continue c h = elim (or_cases (c == 95) (is_xid_start c) h) [
-  | inl underscore ↦ (let e : c ≡ 95 = eqb-true c 95 underscore in subst (λ (x : ℕ). is_xid_continue x ≡ true) (sym e) (is_xid_continue-ascii 95 (omega arith)))
-  | inr start ↦ is_xid_start-is_xid_continue c start
-]
+starts_continue c h = grind (arith, nat_tests, is_xid_start-is_xid_continue, is_xid_continue-ascii)
 
 -- a character that does not continue a name does not begin one
 pub no_start : (t : List ℕ) → first_passes is_xid_continue t ≡ false → first_passes starts_identifier t ≡ false
-no_start [] h = refl
-no_start (c ∷ t) h = false_from_ne_true (starts_identifier c) (λ e. true≢false (sym (starts_continue c e) ∙ h))
+no_start t h = grind (arith, starts_continue)
 
 -- an ASCII character that is neither a letter nor a digit nor `_`
 pub name_end : (c : ℕ) → (is_ascii c && not (is_ascii_alphanumeric c || (c == 95))) ≡ true → is_xid_continue c ≡ false
-name_end c h =
-    let both = and_parts (is_ascii c) (not (is_ascii_alphanumeric c || (c == 95))) h in
-    let ascii : is_ascii c ≡ true = both.0 in
-    let low : c < 128 = grind (arith, nat_tests) in
-    is_xid_continue-ascii c low ∙ not-true _ both.1
+name_end c h = grind (arith, nat_tests, is_xid_continue-ascii)
 
 -- as a contract has it
 pub before_of : (bs rest r : List ℕ) → IsEndOf bs rest → IsUtf8 rest → HasLiteral (chars bs) r → chars rest ≡ r → HasLiteralBefore bs rest
@@ -65,10 +57,7 @@ before_of bs rest r end u h is = record { end = end; utf8 = u; literal = h.0; at
 -- digits
 
 first_taken : (t : List ℕ) → first_passes is_ascii_digit t ≡ true → first_passes is_ascii_digit (take_while is_decimal_char t) ≡ true
-first_taken [] h = h
-first_taken (c ∷ t) h =
-    ap (λ v. first_passes is_ascii_digit (take (cond v (1 + prefix_len is_decimal_char t) 0) (c ∷ t))) (or_left (is_ascii_digit c) (c == 95) h)
-    ∙ (ap (λ n. first_passes is_ascii_digit (take n (c ∷ t))) (one_more (prefix_len is_decimal_char t)) ∙ h)
+first_taken t h = grind (arith, nat_tests)
 
 -- digits and underscores at the front, a digit first, and what follows them
 record Digits (t : List ℕ) : Type 0 where
@@ -78,6 +67,9 @@ record Digits (t : List ℕ) : Type 0 where
   first : first_passes is_ascii_digit main ≡ true
   ends : first_passes is_ascii_digit (after_digits t) ≡ false
 
+no_digit : (x : List ℕ) → first_passes is_decimal_char x ≡ false → first_passes is_ascii_digit x ≡ false
+no_digit x h = grind (arith, nat_tests)
+
 digits_of : (t : List ℕ) → first_passes is_ascii_digit t ≡ true → Digits t
 digits_of t h = record {
   main = take_while is_decimal_char t;
@@ -86,10 +78,6 @@ digits_of t h = record {
   first = first_taken t h;
   ends = no_digit (after_digits t) (first_passes-rest is_decimal_char t);
 }
-  where
-    no_digit : (x : List ℕ) → first_passes is_decimal_char x ≡ false → first_passes is_ascii_digit x ≡ false
-    no_digit [] h = refl
-    no_digit (c ∷ x) h = false_from_ne_true (is_ascii_digit c) (λ e. true≢false (sym (or_left (is_ascii_digit c) (c == 95) e) ∙ h))
 
 some_digit : (m : List ℕ) → first_passes is_ascii_digit m ≡ true → list_any is_ascii_digit m ≡ true
 some_digit [] h = absurd (false≢true h)
@@ -98,15 +86,8 @@ some_digit (c ∷ m) h = or_left (is_ascii_digit c) (list_any is_ascii_digit m) 
 decimal_literal : (m : List ℕ) → list_all is_decimal_char m ≡ true → first_passes is_ascii_digit m ≡ true → is_decimal_literal m ≡ true
 decimal_literal m all first = and_from _ _ first all
 
-no_letter : (p : ℕ) (m : List ℕ) → is_decimal_char p ≡ false → list_all is_decimal_char m ≡ true → begins_with (48 ∷ p ∷ []) m ≡ false
-no_letter p [] h all = refl
-no_letter p (c ∷ []) h all = and_right (48 == c) false refl
-no_letter p (c ∷ e ∷ m) h all =
-    let digit : is_decimal_char e ≡ true = (and_parts (is_decimal_char e) (list_all is_decimal_char m) (and_parts (is_decimal_char c) (list_all is_decimal_char (e ∷ m)) all).1).0 in
-    and_right (48 == c) ((p == e) && true) (and_left (p == e) true (ne_eqb p e (λ same. true≢false (sym digit ∙ (ap is_decimal_char (sym same) ∙ h)))))
-
 no_prefix : (m : List ℕ) → list_all is_decimal_char m ≡ true → has_prefix m ≡ false
-no_prefix m all = or_from _ _ (or_from _ _ (no_letter 98 m refl all) (no_letter 111 m refl all)) (no_letter 120 m refl all)
+no_prefix m all = grind (arith, nat_tests)
 
 -- an integer
 
@@ -153,12 +134,10 @@ kept_period t a h at keeps = integer_at t h (ap (first_passes starts_identifier)
 -- a float
 
 form_of : (f : List ℕ) → is_decimal_literal f ≡ true → is_float_form (Some f) [] [] ≡ true
-form_of [] h = absurd (false≢true h)
-form_of (c ∷ f) h = and_from _ _ h refl
+form_of f h = grind arith
 
 some_fraction : (f : List ℕ) → is_decimal_literal f ≡ true → is_bare (Some f) ≡ false
-some_fraction [] h = absurd (false≢true h)
-some_fraction (c ∷ f) h = refl
+some_fraction f h = grind arith
 
 float_at : (t f r : List ℕ) → (m : Digits t) → after_digits t ≡ 46 ∷ (f ++ r) → is_float_form (Some f) [] [] ≡ true → first_passes starts_identifier r ≡ false →
     first_passes is_ascii_digit r ≡ false → (first_passes is_period r && is_bare (Some f)) ≡ false → HasLiteral t r

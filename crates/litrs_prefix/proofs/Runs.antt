@@ -1,6 +1,6 @@
 -- Names at the front of a text: their ASCII characters are passed by their bytes.
-use Rattle.std.proofs.Common.{◌≡◌, ℕ, suc, ◌+◌, ◌<◌, Bool, true, false, cond, List, [], ◌∷◌, ◌++◌, length, drop, refl, sym, ap, subst, ◌∙◌, arith}
-use Rattle.std.specs.Prelude.{nat_le, ltb}
+use Rattle.std.proofs.Common.{◌≡◌, ℕ, ◌<◌, Bool, true, false, List, [], ◌∷◌, ◌++◌, length, drop, refl, sym, ap, subst, ◌∙◌, arith}
+use Rattle.std.specs.Prelude.{nat_le, ltb, if◌then◌else◌}
 use Rattle.std.specs.List.{list_all, prefix_len}
 use Rattle.std.specs.Str.{chars, IsUtf8, IsCharBoundary}
 use Rattle.std.proofs.lemmas.Bool.{true≢false, false_from_ne_true}
@@ -10,7 +10,7 @@ use Rattle.unicode_ident.specs.Ident.{is_xid_continue}
 use Rattle.unicode_ident.proofs.IdentLemmas.{is_xid_continue-ascii}
 use Rattle.litrs_base.proofs.Begins.{begins_with-split, begins_with-append}
 use Rattle.litrs_base.proofs.Chars.{chars_ascii, ascii_from_test, begins_with-chars, begins_front, passing_front, prefix_len-chars}
-use Rattle.litrs_base.proofs.ListTests.{if_true, if_false}
+use Rattle.litrs_base.proofs.ListTests.{if_false}
 use Rattle.litrs_base.specs.Text.{begins_with, first_passes}
 use Rattle.litrs_grammar.specs.Bool.{bool_text, is_bool}
 use Rattle.litrs_grammar.proofs.Laws.Integer.{first_passes-rest}
@@ -19,19 +19,19 @@ use Rattle.litrs_lex.proofs.SuffixBytes.{is_word, words_are_ascii}
 use Rattle.litrs_prefix.specs.Opens.{after_run, after_name, first_name}
 use Rattle.litrs_prefix.proofs.Names.{name_and_rest}
 
-skip_more : (c : ℕ) (n : ℕ) (t : List ℕ) → drop (1 + n) (c ∷ t) ≡ drop n t
-skip_more c n t = let e : 1 + n ≡ suc n = omega arith in ap (λ (k : ℕ). drop k (c ∷ t)) e
+drop_passed : (p : ℕ → Bool) (c : ℕ) (t : List ℕ) → drop (prefix_len p (c ∷ t)) (c ∷ t) ≡ (if p c then drop (prefix_len p t) t else (c ∷ t))
+drop_passed p c t = grind arith
+
+passed_step : (p : ℕ → Bool) (c : ℕ) (t : List ℕ) → (p c ≡ true → is_xid_continue c ≡ true) → after_run t ≡ after_run (drop (prefix_len p t) t) →
+    after_run (c ∷ t) ≡ after_run (if p c then drop (prefix_len p t) t else (c ∷ t))
+passed_step p c t goes rest = grind arith
+
+pub run_past : (p : ℕ → Bool) → ((c : ℕ) → p c ≡ true → is_xid_continue c ≡ true) → (t : List ℕ) → after_run t ≡ after_run (drop (prefix_len p t) t)
+run_past p goes [] = refl
+run_past p goes (c ∷ t) = passed_step p c t (goes c) (run_past p goes t) ∙ ap after_run (sym (drop_passed p c t))
 
 run_from : (t : List ℕ) → after_run t ≡ after_run (drop (prefix_len is_word t) t)
-run_from [] = refl
-run_from (c ∷ t) = go (is_word c) refl (run_from t)
-  where
-    go : (b : Bool) → is_word c ≡ b → after_run t ≡ after_run (drop (prefix_len is_word t) t) →
-        after_run (c ∷ t) ≡ after_run (drop (cond b (1 + prefix_len is_word t) 0) (c ∷ t))
-    go true e rec =
-        if_true (is_xid_continue c) (after_run t) (c ∷ t) (is_xid_continue-ascii c (ascii_from_test is_word c words_are_ascii e) ∙ e)
-        ∙ (rec ∙ ap after_run (sym (skip_more c (prefix_len is_word t) t)))
-    go false e rec = refl
+run_from t = run_past is_word (λ c h. is_xid_continue-ascii c (ascii_from_test is_word c words_are_ascii h) ∙ h) t
 
 -- the place at which the text is cut after the ASCII characters
 pub name_cut : (bs : List ℕ) (n : ℕ) → IsUtf8 bs → n ≡ prefix_len is_word bs → IsCharBoundary bs n × (after_run (chars (drop n bs)) ≡ after_run (chars bs))

@@ -9,20 +9,17 @@ use Rattle.std.proofs.lemmas.Str.{chars-nil, encodes-chars, IsUtf8-drop}
 use Rattle.unicode_ident.specs.Ident.{is_xid_continue}
 use Rattle.litrs_base.specs.Derivations.{HasNoDerivation}
 use Rattle.litrs_base.specs.declared.quotes.StringKind.{StringKind}
-use Rattle.litrs_base.specs.declared.quotes.StringKind.TheVariants.{String as string_kind, ByteString as byte_string_kind, CString as c_string_kind}
 use Rattle.litrs_base.specs.declared.quotes.Switches.{Switches}
 use Rattle.litrs_base.specs.Quotes.{quoted_front, raw_front, switches_of}
 use Rattle.litrs_base.specs.Text.{is_empty, first_passes, begins_with}
 use Rattle.litrs_base.proofs.Begins.{begins_with-append}
 use Rattle.litrs_base.proofs.Chars.{OnlyAscii, chars_ascii, first_passes-chars}
 use Rattle.litrs_base.proofs.Spans.{is_ascii_char}
-use Rattle.litrs_grammar.specs.Literal.{Derivation, IsLiteral, IsString, StringParts, raw_parts, string_literal_of}
-use Rattle.litrs_grammar.specs.LiteralRefusals.{dispatch, parsed_as}
-use Rattle.litrs_grammar.specs.Quoted.{Item, item_text, IsQuotedLiteral, body_text, is_item, is_complete_before, is_item_list, item_refusal}
+use Rattle.litrs_grammar.specs.Literal.{IsLiteral, raw_parts}
+use Rattle.litrs_grammar.specs.Quoted.{Item, item_text, body_text, is_item, is_complete_before, is_item_list, item_refusal}
 use Rattle.litrs_grammar.specs.Raw.{is_quote, RawParts, IsRawBody, IsRawLiteral, raw_text, raw_closing, hashes, hash_len, length_before, has_unicode, allows_nul}
 use Rattle.litrs_grammar.specs.Laws.Raw.{NoClosingIn}
 use Rattle.litrs_grammar.specs.Suffix.{starts_identifier}
-use Rattle.litrs_grammar.proofs.Laws.Literal.{dispatch_literal}
 use Rattle.litrs_grammar.proofs.Laws.Raw.{refused}
 use Rattle.litrs_grammar.proofs.QuotedItems.{NoItem, same_items, body_stands, quote_no_item, refused_no_item}
 use Rattle.litrs_grammar.proofs.RawCuts.{hash_len-append, hash_cut, after_hashes}
@@ -38,7 +35,7 @@ use Rattle.litrs_prefix.specs.Meant.{after_opened, after_raw, after_closing}
 use Rattle.litrs_prefix.specs.Opens.{after_name}
 use Rattle.litrs_prefix.specs.Opens as opened
 use Rattle.litrs_prefix.proofs.Chars.{longer_raw}
-use Rattle.litrs_prefix.proofs.Judged.{string_at, string_of, to_string, from_string, string_follows, only_quoted, only_raw}
+use Rattle.litrs_prefix.proofs.Judged.{string_at, to_string, string_follows, quoted_of, raw_of}
 use Rattle.litrs_prefix.proofs.Meant.{past_quote_is}
 use Rattle.litrs_prefix.proofs.Opened.{after_all}
 use Rattle.litrs_prefix.proofs.OnlyRest.{item_passed, quoted_body, raw_body}
@@ -118,20 +115,6 @@ nothing_left u a n start end body closing s back none =
     is_nothing [] h = refl
     is_nothing (c ∷ l) h = absurd (false≢true h)
 
--- the kind, by the front
-
-raw_dispatch : (kind : StringKind) (y : List ℕ) → dispatch (raw_front kind ++ y) ≡ parsed_as (string_literal_of kind)
-unfolding dispatch
-raw_dispatch string_kind y = refl
-raw_dispatch byte_string_kind y = refl
-raw_dispatch c_string_kind y = refl
-
-quoted_dispatch : (kind : StringKind) (y : List ℕ) → dispatch (quoted_front kind ++ y) ≡ parsed_as (string_literal_of kind)
-unfolding dispatch
-quoted_dispatch string_kind y = refl
-quoted_dispatch byte_string_kind y = refl
-quoted_dispatch c_string_kind y = refl
-
 -- raw strings that are not closed
 
 pub raw_unclosed : (kind : StringKind) (bs body : List ℕ) (n start end : ℕ) → IsUtf8 body → chars bs ≡ raw_front kind ++ chars body → IsRawOpening 0 body (n, start) →
@@ -143,10 +126,8 @@ raw_unclosed kind bs body n start end u front o s none = (invalid, after)
 
     invalid : HasNoDerivation (IsLiteral (chars bs))
     invalid d h =
-        let x = string_of kind d (sym (dispatch_literal (chars bs) d h) ∙ (ap dispatch front ∙ raw_dispatch kind (chars body))) in
-        let lit = from_string kind (chars bs) x.0 (subst (λ (e : Derivation). IsLiteral (chars bs) e) x.1 h) in
-        let q = only_raw kind (chars bs) x.0 (ap (begins_with (raw_front kind)) front ∙ begins_with-append (raw_front kind) (chars body)) lit in
-        let raw = after_front kind (chars body) (chars bs) q.0 (sym front) (subst (λ (p : StringParts). IsString kind (chars bs) p) q.1 lit) in
+        let q = raw_of kind (chars bs) d (ap (begins_with (raw_front kind)) front ∙ begins_with-append (raw_front kind) (chars body)) h in
+        let raw = after_front kind (chars body) (chars bs) q.0 (sym front) q.1 in
         refused (has_unicode kind) (allows_nul kind) 0 (chars body) _
         (body_refusal_is (has_unicode kind) (allows_nul kind) 0 n start body u o ∙ open_body _ _ n start end body (IsUtf8-drop body start u o.boundary) s none) q.0 raw
 
@@ -217,12 +198,9 @@ quoted_unclosed kind bs body place front e none = (invalid, after)
 
     invalid : HasNoDerivation (IsLiteral (chars bs))
     invalid d h =
-        let x = string_of kind d (sym (dispatch_literal (chars bs) d h) ∙ (ap dispatch front ∙ quoted_dispatch kind (chars body))) in
-        let lit = from_string kind (chars bs) x.0 (subst (λ (y : Derivation). IsLiteral (chars bs) y) x.1 h) in
-        let q = only_quoted kind (chars bs) x.0 (ap (begins_with (quoted_front kind)) front ∙ begins_with-append (quoted_front kind) (chars body)) lit in
-        let is : IsQuotedLiteral kind (chars bs) q.0 = subst (λ (p : StringParts). IsString kind (chars bs) p) q.1 lit in
-        let texts = append_cancel_left (quoted_front kind) (body_text items ++ []) (body_text q.0.items ++ 34 ∷ q.0.suffix) (sym whole ∙ sym is.spells) in
-        let both = same_items w items q.0.items [] (34 ∷ q.0.suffix) taken (body_stands w q.0.items q.0.suffix is.body) no_item (quote_no_item w q.0.suffix) texts in
+        let q = quoted_of kind (chars bs) d (ap (begins_with (quoted_front kind)) front ∙ begins_with-append (quoted_front kind) (chars body)) h in
+        let texts = append_cancel_left (quoted_front kind) (body_text items ++ []) (body_text q.0.items ++ 34 ∷ q.0.suffix) (sym whole ∙ sym q.1.spells) in
+        let both = same_items w items q.0.items [] (34 ∷ q.0.suffix) taken (body_stands w q.0.items q.0.suffix q.1.body) no_item (quote_no_item w q.0.suffix) texts in
         let never : [] ≡ 34 ∷ q.0.suffix = both.1 in cc
 
     after : after_opened (chars bs) ≡ []
