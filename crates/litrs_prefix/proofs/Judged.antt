@@ -1,5 +1,5 @@
 -- Decisions if a piece of a text is a literal, and if the rest may follow it.
-use Rattle.std.proofs.Common.{◌≡◌, inl, inr, ℕ, ◌<◌, Bool, true, false, List, [], ◌++◌, take, drop, Option, Some, None, refl, sym, ap, subst, ◌∙◌}
+use Rattle.std.proofs.Common.{◌≡◌, inl, inr, ℕ, ◌<◌, Bool, true, false, List, ◌++◌, take, drop, Option, Some, None, refl, sym, ap, subst, ◌∙◌, arith}
 use Rattle.std.specs.Prelude.{◌&&◌, codes, if◌then◌else◌}
 use Rattle.std.specs.Str.{chars, IsUtf8, IsCharBoundary}
 use Rattle.std.proofs.lemmas.Bool.{true≢false, false≢true}
@@ -20,7 +20,7 @@ use Rattle.litrs_grammar.specs.LiteralRefusals.{Dispatch, refused_as, parsed_as,
 use Rattle.litrs_grammar.specs.Quoted.{QuotedParts, IsQuotedLiteral}
 use Rattle.litrs_grammar.specs.Raw.{RawParts, IsRawLiteral}
 use Rattle.litrs_grammar.proofs.Laws.Bool.{chars-bool_text}
-use Rattle.litrs_grammar.proofs.Laws.Literal.{dispatch_literal}
+use Rattle.litrs_grammar.proofs.Laws.Literal.{dispatch_literal, literals_are_unique}
 use Rattle.litrs_lex.specs.declared.kind.Front.{Front}
 use Rattle.litrs_lex.specs.declared.kind.Front.TheVariants as front
 use Rattle.litrs_lex.specs.Front.{row_of, IsFront}
@@ -31,9 +31,8 @@ use Rattle.litrs_prefix.specs.Extent.{IsLiteralLen, IsMalformedLen, IsJudged, Is
 use Rattle.litrs_prefix.specs.Meant.{IsMeant}
 use Rattle.litrs_prefix.specs.Opens.{opens}
 use Rattle.litrs_prefix.specs.Prefix.{may_follow, ends_bool, ends_suffix, ends_integer, ends_float, HasPrefix, HasNoPrefix}
-use Rattle.litrs_prefix.proofs.LongerTexts.{whole}
 use Rattle.litrs_prefix.proofs.Pieces.{parts_spell, piece_is}
-use Rattle.litrs_prefix.proofs.Unique.{unique, number_kind}
+use Rattle.litrs_prefix.proofs.Unique.{number_kind}
 
 -- the strings of a kind: a quoted one is not raw
 
@@ -52,29 +51,23 @@ from_string string_kind t x h = h
 from_string kind t x h = h
 
 pub string_follows : (kind : StringKind) (x : StringParts) (r : List ℕ) → may_follow (string_at kind x) r ≡ ends_suffix (string_suffix x) r
-string_follows string_kind x r = refl
-string_follows kind x r = refl
+string_follows kind x r = grind arith
 
 string_of : (kind : StringKind) (t : List ℕ) (d : Derivation) → IsLiteral t d → dispatch t ≡ parsed_as (string_literal_of kind) → (x : StringParts) × IsString kind t x
 string_of kind t d h row = (let x = at kind d (sym (dispatch_literal t d h) ∙ row) in (x.0, from_string kind t x.0 (subst (λ (e : Derivation). IsLiteral t e) x.1 h)))
   where
     at : (kind : StringKind) (d : Derivation) → parsed_as (literal_kind d) ≡ parsed_as (string_literal_of kind) → (x : StringParts) × (d ≡ string_at kind x)
-    at string_kind (a_string x) h = (x, refl)
-    at byte_string_kind (a_byte_string x) h = (x, refl)
-    at c_string_kind (a_c_string x) h = (x, refl)
-    at string_kind d h = absurd cc
-    at byte_string_kind d h = absurd cc
-    at c_string_kind d h = absurd cc
+    at string_kind d h = grind arith
+    at byte_string_kind d h = grind arith
+    at c_string_kind d h = grind arith
 
 quoted_row : (kind : StringKind) (y : List ℕ) → (dispatch (quoted_front kind ++ y) ≡ parsed_as (string_literal_of kind)) × (begins_with (raw_front kind) (quoted_front kind ++ y) ≡ false)
 unfolding dispatch
-quoted_row string_kind y = (refl, refl)
-quoted_row kind y = (refl, refl)
+quoted_row kind y = grind arith
 
 raw_row : (kind : StringKind) (y : List ℕ) → (dispatch (raw_front kind ++ y) ≡ parsed_as (string_literal_of kind)) × (begins_with (quoted_front kind) (raw_front kind ++ y) ≡ false)
 unfolding dispatch
-raw_row string_kind y = (refl, refl)
-raw_row kind y = (refl, refl)
+raw_row kind y = grind arith
 
 pub only_quoted : (kind : StringKind) (t : List ℕ) (x : StringParts) → begins_with (quoted_front kind) t ≡ true → IsString kind t x → (q : QuotedParts) × IsQuotedLiteral kind t q
 only_quoted kind t (quoted_parts q) begins h = (q, h)
@@ -108,12 +101,10 @@ kind_at : (f : Front) (bs : List ℕ) (row : Dispatch) (d : Derivation) → IsUt
 kind_at f bs row d u is same h = sym (dispatch_literal (chars bs) d h) ∙ (dispatch-chars bs u ∙ (sym is.row ∙ same))
 
 char_of : (d : Derivation) → parsed_as (literal_kind d) ≡ parsed_as char_literal → (x : CharParts) × (d ≡ a_char x)
-char_of (a_char x) h = (x, refl)
-char_of d h = absurd cc
+char_of d h = grind arith
 
 byte_of : (d : Derivation) → parsed_as (literal_kind d) ≡ parsed_as byte_literal → (x : CharParts) × (d ≡ a_byte x)
-byte_of (a_byte x) h = (x, refl)
-byte_of d h = absurd cc
+byte_of d h = grind arith
 
 -- each kind
 
@@ -200,6 +191,6 @@ pub judged_none : (bs f rest : List ℕ) (n : ℕ) (o : Option Bool) → IsUtf8 
 judged_none bs f rest n None u bound before after only judged fails = λ d r at. judged d (piece_is bs f n d r u before (bound, sym (only d r at)) at)
 judged_none bs f rest n (Some v) u bound before after only judged fails = λ d r at.
     let place : EndsBefore bs r n = (bound, sym (only d r at)) in
-    let same : d ≡ judged.0 = (unique (chars f) d judged.0 [] [] (whole (chars f) d (piece_is bs f n d r u before place at)) (whole (chars f) judged.0 judged.1)).0 in
+    let same : d ≡ judged.0 = literals_are_unique (chars f) d judged.0 (piece_is bs f n d r u before place at) judged.1 in
     let left : chars rest ≡ r = ap chars after ∙ place.1 in
     fails (ap Some (sym judged.2 ∙ (ap (λ (e : Derivation). may_follow e (chars rest)) (sym same) ∙ (ap (may_follow d) left ∙ at.follows))))

@@ -1,6 +1,7 @@
 -- Answers that more text changes, and those that stay.
 use Rattle.std.proofs.Common.{◌≡◌, ◌⊎◌, inl, inr, eqb, ltb, ℕ, Bool, true, false, ◌||◌, List, [], ◌∷◌, ◌++◌, length, length-append, refl, sym, ap, subst, ◌∙◌, append_assoc, append-nil, arith}
 use Rattle.std.specs.Prelude.{codes}
+use Rattle.std.specs.Char.{is_ascii_digit}
 use Rattle.std.specs.List.{list_all}
 use Rattle.std.specs.Cmp.Lexicographic.{pointwise}
 use Rattle.std.specs.Str.{chars, IsUtf8}
@@ -22,10 +23,10 @@ use Rattle.litrs_prefix.specs.MayChange.{Answer, none, literal, malformed, IsMal
 use Rattle.litrs_prefix.specs.Meant.{after_opened}
 use Rattle.litrs_prefix.specs.Opens.{first_run, first_name, after_name, after_hashes, begins_lifetime, opens_raw, opens_bytes, opens_c_string, opens}
 use Rattle.litrs_prefix.specs.Prefix.{may_follow, HasPrefix, HasNoPrefix}
-use Rattle.litrs_prefix.proofs.Names.{quote_stops, Ways, ways}
+use Rattle.litrs_prefix.proofs.Names.{quote_stops}
 use Rattle.litrs_prefix.proofs.LongerTexts.{whole, stays}
 use Rattle.litrs_prefix.proofs.Opened.{opened}
-use Rattle.litrs_prefix.proofs.OpenedStays.{letter_is_taken, opened_stays, raw_stays, lifetime_stays, name_kept, run_whole, x_goes_on, x_begins}
+use Rattle.litrs_prefix.proofs.MeantEnds.{letter_is_taken, opened_stays, raw_stays, lifetime_stays, name_kept, run_whole, x_goes_on, x_begins}
 use Rattle.litrs_prefix.proofs.Unique.{unique}
 
 -- a malformed literal
@@ -205,12 +206,10 @@ raw_later : (t : List ℕ) → is_empty (after_hashes t) ≡ true → opens_raw 
 raw_later t h = ap (first_passes is_quote) (hashes_to t (34 ∷ []) h)
 
 bytes_later : (t : List ℕ) → is_open_prefix t ≡ true → opens_bytes (t ++ 34 ∷ []) ≡ true
-bytes_later [] h = refl
-bytes_later (c ∷ t) h = grind (arith, nat_tests, raw_later t)
+bytes_later t h = grind (arith, nat_tests, raw_later)
 
 c_later : (t : List ℕ) → is_open_prefix t ≡ true → opens_c_string (t ++ 34 ∷ []) ≡ true
-c_later [] h = refl
-c_later (c ∷ t) h = grind (arith, nat_tests, raw_later t)
+c_later t h = grind (arith, nat_tests, raw_later)
 
 -- a quote of one of the two kinds opens it
 quotes_open : (c : ℕ) (t : List ℕ) → is_open_front (c ∷ t) ≡ true → (opens (c ∷ (t ++ 39 ∷ [])) ≡ true) ⊎ (opens (c ∷ (t ++ 34 ∷ [])) ≡ true)
@@ -239,12 +238,10 @@ begins_bool t z h =
     (z, a_bool bool.0, (and_parts (list_all is_scalar t) (list_all is_scalar z) (sym (list_all-append is_scalar t z) ∙ text)).1, bool.1)
 
 bytes_opened : (t m : List ℕ) → is_open_prefix t ≡ false → opens_bytes (t ++ m) ≡ true → opens_bytes t ≡ true
-bytes_opened [] m h g = absurd (true≢false h)
-bytes_opened (d ∷ u) m h g = grind (arith, raw_stays u m)
+bytes_opened t m h g = grind (arith, raw_stays)
 
 c_opened : (t m : List ℕ) → is_open_prefix t ≡ false → opens_c_string (t ++ m) ≡ true → opens_c_string t ≡ true
-c_opened [] m h g = absurd (true≢false h)
-c_opened (d ∷ u) m h g = grind (arith, raw_stays u m)
+c_opened t m h g = grind (arith, raw_stays)
 
 single_shorter : (c : ℕ) (t m : List ℕ) → is_open_front (c ∷ t) ≡ false → c ≡ 39 → begins_lifetime (t ++ m) ≡ false → opens (c ∷ t) ≡ true
 single_shorter c t m front is h = grind (arith, nat_tests, lifetime_stays t m)
@@ -257,6 +254,15 @@ bytes_shorter c t m front is h = grind (arith, nat_tests, bytes_opened t m)
 
 c_shorter : (c : ℕ) (t m : List ℕ) → is_open_front (c ∷ t) ≡ false → c ≡ 99 → opens_c_string (t ++ m) ≡ true → opens (c ∷ t) ≡ true
 c_shorter c t m front is h = grind (arith, nat_tests, c_opened t m)
+
+-- the ways in which a literal begins
+abbrev Ways : ℕ → List ℕ → Type 0
+Ways c t =
+    (is_ascii_digit c ≡ true) ⊎ ((c ≡ 34) ⊎ (((c ≡ 39) × (begins_lifetime t ≡ false)) ⊎ (((c ≡ 114) × (opens_raw t ≡ true))
+    ⊎ (((c ≡ 98) × (opens_bytes t ≡ true)) ⊎ (((c ≡ 99) × (opens_c_string t ≡ true)) ⊎ (is_bool (first_name (c ∷ t)) ≡ true))))))
+
+ways : (c : ℕ) (t : List ℕ) → opens (c ∷ t) ≡ true → Ways c t
+ways c t h = grind (arith, nat_tests)
 
 -- unless the name at the front becomes a bool
 pub opens_unless_bool : (c : ℕ) (t m : List ℕ) → opens (c ∷ t) ≡ false → is_open_front (c ∷ t) ≡ false →

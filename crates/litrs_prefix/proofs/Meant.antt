@@ -3,7 +3,7 @@ use Rattle.std.proofs.Common.{◌≡◌, ℕ, zero, suc, ◌+◌, Bool, true, fa
 use Rattle.std.specs.Prelude.{◌==◌, encode_utf8, if◌then◌else◌}
 use Rattle.std.specs.List.{list_all, prefix_len, after_first}
 use Rattle.std.specs.Str.{chars, IsUtf8}
-use Rattle.std.proofs.lemmas.Bool.{cases_Bool, and_parts, and_right, eqb-true, true≢false}
+use Rattle.std.proofs.lemmas.Bool.{cases_Bool, and_parts}
 use Rattle.std.proofs.lemmas.Bool.Decides.{nat_tests}
 use Rattle.std.proofs.lemmas.List.{drop_at}
 use Rattle.std.proofs.lemmas.Str.{encode_ascii}
@@ -17,7 +17,7 @@ use Rattle.litrs_grammar.proofs.FloatCuts.{IsCut, cut_of, cut_of_text, after_dec
 use Rattle.litrs_grammar.proofs.Laws.Integer.{prefix_len_front}
 use Rattle.litrs_grammar.proofs.RawCuts.{length-hashes}
 use Rattle.litrs_prefix.specs.Ends.{past_quote, past_single_quote, after_digits, after_fraction, after_exponent, after_sign}
-use Rattle.litrs_prefix.specs.Meant.{lone, escaped, symbols, symbols_text, is_lone, after_quote, first_line, after_single_quote, after_number, after_closing}
+use Rattle.litrs_prefix.specs.Meant.{Symbol, lone, escaped, symbols, symbols_text, is_lone, after_quote, first_line, after_single_quote, after_number, after_closing}
 
 -- closings
 
@@ -52,44 +52,36 @@ hash_is_ascii c high = grind (arith, nat_tests)
 
 -- quotes
 
-first_here : {A : Type 0} (p : A → Bool) (x : A) (xs : List A) → p x ≡ true → after_first p (x ∷ xs) ≡ xs
-first_here p x xs h = grind arith
-
-first_later : {A : Type 0} (p : A → Bool) (x : A) (xs : List A) → p x ≡ false → after_first p (x ∷ xs) ≡ after_first p xs
-first_later p x xs h = grind arith
-
 -- the symbols of a text spell it
 spelt : (t : List ℕ) → symbols_text (symbols t) ≡ t
 spelt [] = refl
 spelt (c ∷ []) = refl
 spelt (c ∷ d ∷ t) = grind (arith, nat_tests, spelt t, spelt (d ∷ t))
 
-quote_slash : (quote c : ℕ) → (quote == 92) ≡ false → (c == quote) ≡ true → (c == 92) ≡ false
-quote_slash quote c other is = ap (λ (k : ℕ). k == 92) (eqb-true c quote is) ∙ other
+-- the steps over a symbol
+lone_step : (quote c : ℕ) (s : List Symbol) → symbols_text (after_first (is_lone quote) (lone c ∷ s)) ≡ (if c == quote then symbols_text s else symbols_text (after_first (is_lone quote) s))
+lone_step quote c s = grind arith
 
--- the step over a symbol
-step : (q s : Bool) (quote c d : ℕ) (t : List ℕ) → (quote == 92) ≡ false → (c == quote) ≡ q → (c == 92) ≡ s →
-    past_quote quote false t ≡ after_quote quote t → past_quote quote false (d ∷ t) ≡ after_quote quote (d ∷ t) →
-    (if q && true then d ∷ t else past_quote quote (s && true) (d ∷ t)) ≡ symbols_text (after_first (is_lone quote) (if s then escaped d ∷ symbols t else lone c ∷ symbols (d ∷ t)))
-step true true quote c d t other is slash after rest = absurd (true≢false (sym slash ∙ quote_slash quote c other is))
-step true false quote c d t other is slash after rest =
-    sym (ap symbols_text (first_here (is_lone quote) (lone c) (symbols (d ∷ t)) is) ∙ spelt (d ∷ t))
-step false true quote c d t other is slash after rest =
-    if_false ((d == quote) && false) t (past_quote quote ((d == 92) && false) t) (and_right (d == quote) false refl)
-    ∙ (ap (λ (e : Bool). past_quote quote e t) (and_right (d == 92) false refl)
-    ∙ (after ∙ sym (ap symbols_text (first_later (is_lone quote) (escaped d) (symbols t) refl))))
-step false false quote c d t other is slash after rest =
-    rest ∙ sym (ap symbols_text (first_later (is_lone quote) (lone c) (symbols (d ∷ t)) is))
+escaped_step : (quote d : ℕ) (s : List Symbol) → symbols_text (after_first (is_lone quote) (escaped d ∷ s)) ≡ symbols_text (after_first (is_lone quote) s)
+escaped_step quote d s = grind arith
 
-last_symbol : (q : Bool) (quote c : ℕ) (x : List ℕ) → x ≡ [] → (c == quote) ≡ q → (if q && true then [] else x) ≡ symbols_text (after_first (is_lone quote) (lone c ∷ []))
-last_symbol true quote c x none is = sym (ap symbols_text (first_here (is_lone quote) (lone c) [] is))
-last_symbol false quote c x none is = none ∙ sym (ap symbols_text (first_later (is_lone quote) (lone c) [] is))
+escape_passed : (quote c d : ℕ) (t : List ℕ) → (quote == 92) ≡ false → (c == 92) ≡ true → past_quote quote false (c ∷ d ∷ t) ≡ past_quote quote false t
+escape_passed quote c d t other slash = grind (arith, nat_tests)
+
+plain_passed : (quote c d : ℕ) (t a b : List ℕ) → symbols_text (symbols (d ∷ t)) ≡ d ∷ t → past_quote quote false (d ∷ t) ≡ a → (if c == quote then symbols_text (symbols (d ∷ t)) else a) ≡ b →
+    (c == 92) ≡ false → past_quote quote false (c ∷ d ∷ t) ≡ b
+plain_passed quote c d t a b whole rest is plain = rw (plain, rest) (grind arith)
+
+last_symbol : (quote c : ℕ) → past_quote quote false (c ∷ []) ≡ after_quote quote (c ∷ [])
+last_symbol quote c = grind arith
 
 pub past_quote_is : (quote : ℕ) → (quote == 92) ≡ false → (t : List ℕ) → past_quote quote false t ≡ after_quote quote t
 past_quote_is quote other [] = refl
-past_quote_is quote other (c ∷ []) = last_symbol (c == quote) quote c (past_quote quote ((c == 92) && true) []) refl refl
-past_quote_is quote other (c ∷ d ∷ t) =
-    step (c == quote) (c == 92) quote c d t other refl refl (past_quote_is quote other t) (past_quote_is quote other (d ∷ t))
+past_quote_is quote other (c ∷ []) = last_symbol quote c
+past_quote_is quote other (c ∷ d ∷ t) = elim (cases_Bool (c == 92)) [
+  | inl slash ↦ escape_passed quote c d t other slash ∙ (past_quote_is quote other t ∙ sym (rw slash (escaped_step quote d (symbols t))))
+  | inr plain ↦ plain_passed quote c d t _ _ (spelt (d ∷ t)) (past_quote_is quote other (d ∷ t)) (sym (rw plain (lone_step quote c (symbols (d ∷ t))))) plain
+]
 
 -- lines
 
@@ -131,8 +123,7 @@ pub digits_passed : (f x : List ℕ) → list_all is_decimal_char f ≡ true →
 digits_passed f x all stop = drop_at f x (prefix_len is_decimal_char (f ++ x)) (sym (prefix_len_front is_decimal_char f x all stop))
 
 fraction_none : (p x : List ℕ) → is_exponent_front p ≡ true → (p ≡ [] → first_passes is_period x ≡ false) → after_fraction (p ++ x) ≡ p ++ x
-fraction_none [] [] front none = refl
-fraction_none [] (c ∷ x) front none = if_false (is_period c) (after_digits x) (c ∷ x) (none refl)
+fraction_none [] x front none = (let h = none refl in grind arith)
 fraction_none (c ∷ p) x front none = if_false (is_period c) (after_digits (p ++ x)) (c ∷ (p ++ x)) (letter_period c (and_parts _ _ front).0)
 
 fraction_passed : (f : Option (List ℕ)) (p x : List ℕ) → fraction_passes f ≡ true → is_exponent_front p ≡ true → first_passes is_decimal_char x ≡ false →
@@ -148,8 +139,7 @@ number_passed (s ∷ ds) x all stop none = grind (arith, digits_passed ds x, dig
 
 exponent_passed : (p x : List ℕ) → is_exponent_front p ≡ true → first_passes is_decimal_char x ≡ false → (p ≡ [] → first_passes is_e x ≡ false) →
     ((c : ℕ) → p ≡ c ∷ [] → first_passes is_sign x ≡ false) → after_exponent (p ++ x) ≡ x
-exponent_passed [] [] front stop none sign = refl
-exponent_passed [] (c ∷ x) front stop none sign = if_false (is_e c) (after_digits (after_sign x)) (c ∷ x) (none refl)
+exponent_passed [] x front stop none sign = (let h = none refl in grind arith)
 exponent_passed (c ∷ cs) x front stop none sign =
     let parts = and_parts (is_e c) _ front in
     if_true (is_e c) (after_digits (after_sign (cs ++ x))) (c ∷ (cs ++ x)) parts.0

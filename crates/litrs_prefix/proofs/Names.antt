@@ -1,9 +1,9 @@
 -- Names at the front of a text.
-use Rattle.std.proofs.Common.{◌≡◌, ◌⊎◌, inl, inr, ℕ, Bool, true, false, not, List, [], ◌∷◌, ◌++◌, refl, sym, ap, ◌∙◌, arith}
+use Rattle.std.proofs.Common.{◌≡◌, ◌⊎◌, ℕ, Bool, true, false, not, List, [], ◌∷◌, ◌++◌, refl, sym, ap, ◌∙◌, arith}
 use Rattle.std.specs.Prelude.{◌==◌, if◌then◌else◌}
 use Rattle.std.specs.Char.{is_ascii_digit}
 use Rattle.std.specs.List.{list_all}
-use Rattle.std.proofs.lemmas.Bool.{and_parts, and_from, not-true, true≢false, false≢true, false_from_ne_true}
+use Rattle.std.proofs.lemmas.Bool.{and_parts, not-true, true≢false, false≢true, false_from_ne_true}
 use Rattle.std.proofs.lemmas.Bool.Decides.{nat_tests}
 use Rattle.std.proofs.lemmas.List.{append_cancel_right}
 use Rattle.unicode_ident.specs.Ident.{is_xid_continue}
@@ -12,6 +12,7 @@ use Rattle.litrs_base.specs.Text.{first_passes}
 use Rattle.litrs_grammar.specs.Bool.{bool_text, is_bool}
 use Rattle.litrs_grammar.specs.Suffix.{is_suffix, starts_identifier}
 use Rattle.litrs_grammar.proofs.Laws.Literal.{some_bool, is_bool-text}
+use Rattle.litrs_prefix.specs.Laws.{SuffixesAreUnique}
 use Rattle.litrs_prefix.specs.Opens.{first_run, first_name, after_run, after_name, begins_lifetime, opens_raw, opens_bytes, opens_c_string, opens}
 use Rattle.litrs_prefix.specs.Prefix.{ends_suffix, ends_bool}
 
@@ -39,12 +40,7 @@ name_after (c ∷ s) r h e = grind (arith, run_after s r)
 
 bool_name : (b : Bool) → is_suffix (bool_text b) ≡ true
 unfolding is_suffix
-bool_name true = and_from _ _ (and_from _ _ (is_xid_start-ascii 116 (omega arith)) (and_from _ _ (is_xid_continue-ascii 114 (omega arith)) (and_from _ _ (is_xid_continue-ascii 117 (omega arith)) (and_from _ _ (is_xid_continue-ascii 101 (omega arith)) refl)))) refl
-bool_name false = and_from _ _ (and_from _ _ (is_xid_start-ascii 102 (omega arith)) (and_from _ _ (is_xid_continue-ascii 97 (omega arith)) (and_from _ _ (is_xid_continue-ascii 108 (omega arith)) (and_from _ _ (is_xid_continue-ascii 115 (omega arith)) (and_from _ _ (is_xid_continue-ascii 101 (omega arith)) refl))))) refl
-
-pub bool_after : (b : Bool) (r : List ℕ) → ends_bool r ≡ true → after_name (bool_text b ++ r) ≡ r
-bool_after true r h = name_after (bool_text true) r (bool_name true) (and_parts _ _ h).0
-bool_after false r h = name_after (bool_text false) r (bool_name false) (and_parts _ _ h).0
+bool_name b = grind (arith, is_xid_start-ascii, is_xid_continue-ascii)
 
 -- the name of a suffix is the suffix
 name_first : (s r : List ℕ) → is_suffix s ≡ true → ends_suffix s r ≡ true → first_name (s ++ r) ≡ s
@@ -52,9 +48,15 @@ name_first s r h e =
     let t = s ++ r in
     append_cancel_right (first_name t) s r (ap (λ (l : List ℕ). first_name t ++ l) (sym (name_after s r h e)) ∙ name_and_rest t)
 
+pub same_suffix : SuffixesAreUnique
+same_suffix s x r y h g e f same =
+    (sym (name_first s r h e) ∙ (ap first_name same ∙ name_first x y g f), sym (name_after s r h e) ∙ (ap after_name same ∙ name_after x y g f))
+
 ends_word : (b : Bool) (r : List ℕ) → first_passes is_xid_continue r ≡ false → ends_suffix (bool_text b) r ≡ true
-ends_word true r h = ap not h
-ends_word false r h = ap not h
+ends_word b r h = grind arith
+
+pub bool_after : (b : Bool) (r : List ℕ) → ends_bool r ≡ true → after_name (bool_text b ++ r) ≡ r
+bool_after b r h = name_after (bool_text b) r (bool_name b) (ends_word b r (not-true _ (and_parts _ _ h).0))
 
 pub bool_first : (b : Bool) (r : List ℕ) → ends_bool r ≡ true → first_name (bool_text b ++ r) ≡ bool_text b
 bool_first b r h = name_first (bool_text b) r (bool_name b) (ends_word b r (not-true _ (and_parts _ _ h).0))
@@ -107,25 +109,9 @@ pub data Opening : List ℕ → Type 0 where
 pub first_of_bool : (v : Bool) (c : ℕ) (l : List ℕ) → is_bool (if v then c ∷ l else []) ≡ true → (c ≡ 116) ⊎ (c ≡ 102)
 first_of_bool v c l h = grind (arith, nat_tests)
 
-abbrev pub Ways : ℕ → List ℕ → Type 0
-Ways c t =
-    (is_ascii_digit c ≡ true) ⊎ ((c ≡ 34) ⊎ (((c ≡ 39) × (begins_lifetime t ≡ false)) ⊎ (((c ≡ 114) × (opens_raw t ≡ true))
-    ⊎ (((c ≡ 98) × (opens_bytes t ≡ true)) ⊎ (((c ≡ 99) × (opens_c_string t ≡ true)) ⊎ (is_bool (first_name (c ∷ t)) ≡ true))))))
-
-pub ways : (c : ℕ) (t : List ℕ) → opens (c ∷ t) ≡ true → Ways c t
-ways c t h = grind (arith, nat_tests)
+with_first : (c : ℕ) (t : List ℕ) → opens (c ∷ t) ≡ true → Opening (c ∷ t)
+with_first c t h = grind (arith, nat_tests, digit, double, single, raw, bytes, c_string, word_true, word_false, first_of_bool)
 
 pub opening : (t : List ℕ) → opens t ≡ true → Opening t
 opening [] h = absurd (false≢true h)
-opening (c ∷ t) h = elim (ways c t h) [
-  | inl is ↦ digit is
-  | inr (inl is) ↦ rw is double
-  | inr (inr (inl is)) ↦ rw is.0 (single is.1)
-  | inr (inr (inr (inl is))) ↦ rw is.0 (raw is.1)
-  | inr (inr (inr (inr (inl is)))) ↦ rw is.0 (bytes is.1)
-  | inr (inr (inr (inr (inr (inl is))))) ↦ rw is.0 (c_string is.1)
-  | inr (inr (inr (inr (inr (inr bool))))) ↦ elim (first_of_bool (starts_identifier c) c (first_run t) bool) [
-    | inl is ↦ rw is (word_true (rw is at bool))
-    | inr is ↦ rw is (word_false (rw is at bool))
-  ]
-]
+opening (c ∷ t) h = with_first c t h

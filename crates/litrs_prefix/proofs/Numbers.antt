@@ -14,11 +14,12 @@ use Rattle.litrs_base.specs.Text.{first_passes, is_empty}
 use Rattle.litrs_grammar.specs.Suffix.{starts_identifier, is_suffix}
 use Rattle.litrs_grammar.specs.Integer.{IntegerParts, IsInteger, IsIntegerOf, is_e, has_prefix, base_of, integer_cut}
 use Rattle.litrs_grammar.specs.Float.{FloatParts, IsFloatOf, float_text, fraction_text, is_period, is_exponent, is_float_form, is_decimal_char, is_decimal_literal}
-use Rattle.litrs_grammar.proofs.Laws.Integer.{cut_with, integer_cut-is, take_while_front, prefix_len_front}
+use Rattle.litrs_grammar.proofs.Laws.Integer.{cut_with, integer_cut-is, take_while_front}
 use Rattle.litrs_grammar.proofs.Laws.Float.{float_is_cut, suffix_no_period}
 use Rattle.litrs_grammar.proofs.FloatCuts.{IsCut, after_decimals}
 use Rattle.litrs_prefix.specs.Prefix.{ends_suffix, ends_integer, ends_float, is_bare, gives_period}
-use Rattle.litrs_prefix.proofs.Suffixes.{same_suffix}
+use Rattle.litrs_prefix.proofs.Meant.{digits_passed}
+use Rattle.litrs_prefix.proofs.Names.{same_suffix}
 
 -- a character that does not begin a name is neither a letter nor `_`
 pub no_start : (c : ℕ) → starts_identifier c ≡ false → (is_ascii_alphabetic c || (c == 95)) ≡ false
@@ -70,9 +71,7 @@ cut_longer base m y digits ends =
     ∙ ap (λ (x : List ℕ). record { base = base; main = m; suffix = x }) (drop_at m y (length m) refl))
 
 pub longer_integer : (s r : List ℕ) (d : IntegerParts) → IsIntegerOf s d → s ++ r ≡ prefix d.base ++ (d.main ++ (d.suffix ++ r))
-longer_integer s r d h =
-    ap (λ (l : List ℕ). l ++ r) (sym h.spells)
-    ∙ (append_assoc (prefix d.base) (d.main ++ d.suffix) r ∙ ap (λ (l : List ℕ). prefix d.base ++ l) (append_assoc d.main d.suffix r))
+longer_integer s r d h = ap (λ (l : List ℕ). l ++ r) (sym h.spells) ∙ simp append_assoc
 
 -- a longer text is cut as the integer at its front
 pub cut_stays : (s r : List ℕ) (d : IntegerParts) → IsIntegerOf s d → ends_suffix d.suffix r ≡ true → ends_integer d r ≡ true →
@@ -127,11 +126,7 @@ float_cut_stays d s r h e f =
     }
 
 pub longer_float : (d : FloatParts) (s r : List ℕ) → IsFloatOf s d → s ++ r ≡ float_text (with_rest d r)
-longer_float d s r h =
-    let f = fraction_text d.fraction in
-    ap (λ (l : List ℕ). l ++ r) (sym h.spells)
-    ∙ (append_assoc d.integer (f ++ (d.exponent ++ d.suffix)) r
-    ∙ ap (λ (l : List ℕ). d.integer ++ l) (append_assoc f (d.exponent ++ d.suffix) r ∙ ap (λ (l : List ℕ). f ++ l) (append_assoc d.exponent d.suffix r)))
+longer_float d s r h = ap (λ (l : List ℕ). l ++ r) (sym h.spells) ∙ simp append_assoc
 
 -- The text after the decimal digits decides which of the two it is: `e` or `E`, or a period that an
 -- integer would take.
@@ -147,10 +142,7 @@ integer_no_mark (c ∷ x) r h g e f = or_from _ _ g (and_left (is_period c) _ (s
 
 base_no_mark : (base : IntegerBase) (m y : List ℕ) → list_all (is_digit_or_underscore base) m ≡ true → first_passes (is_digit_or_underscore base) y ≡ false → is_mark y ≡ false →
     has_mark (prefix base ++ (m ++ y)) ≡ false
-base_no_mark Decimal m y digits ends none =
-    let p = is_digit_or_underscore Decimal in
-    let after : drop (prefix_len p (m ++ y)) (m ++ y) ≡ y = drop_at m y (prefix_len p (m ++ y)) (sym (prefix_len_front p m y digits ends)) in
-    ap is_mark after ∙ none
+base_no_mark Decimal m y digits ends none = ap is_mark (digits_passed m y digits ends) ∙ none
 base_no_mark base m y digits ends none = refl
 
 pub integer_mark : (s r : List ℕ) (d : IntegerParts) → IsIntegerOf s d → ends_suffix d.suffix r ≡ true → ends_integer d r ≡ true → has_mark (s ++ r) ≡ false

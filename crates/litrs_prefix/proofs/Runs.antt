@@ -9,7 +9,7 @@ use Rattle.std.proofs.lemmas.Str.{IsCharBoundary-from_drop, chars-nil}
 use Rattle.unicode_ident.specs.Ident.{is_xid_continue}
 use Rattle.unicode_ident.proofs.IdentLemmas.{is_xid_continue-ascii}
 use Rattle.litrs_base.proofs.Begins.{begins_with-split, begins_with-append}
-use Rattle.litrs_base.proofs.Chars.{chars_ascii, ascii_from_test, begins_with-chars, begins_front, passing_front, prefix_len-chars}
+use Rattle.litrs_base.proofs.Chars.{OnlyAscii, chars_ascii, ascii_from_test, begins_with-chars, begins_front, passing_front, prefix_len-chars}
 use Rattle.litrs_base.proofs.ListTests.{if_false}
 use Rattle.litrs_base.specs.Text.{begins_with, first_passes}
 use Rattle.litrs_grammar.specs.Bool.{bool_text, is_bool}
@@ -33,14 +33,18 @@ run_past p goes (c ∷ t) = passed_step p c t (goes c) (run_past p goes t) ∙ a
 run_from : (t : List ℕ) → after_run t ≡ after_run (drop (prefix_len is_word t) t)
 run_from t = run_past is_word (λ c h. is_xid_continue-ascii c (ascii_from_test is_word c words_are_ascii h) ∙ h) t
 
+-- the characters at the front of a text that pass a test of ASCII characters, in bytes
+pub ascii_front : (p : ℕ → Bool) → OnlyAscii p → (bs : List ℕ) → IsUtf8 bs → IsCharBoundary bs (prefix_len p bs) × (chars (drop (prefix_len p bs) bs) ≡ drop (prefix_len p (chars bs)) (chars bs))
+ascii_front p only bs u =
+    let f = passing_front p bs only u in
+    let same : prefix_len p (chars bs) ≡ prefix_len p bs = prefix_len-chars p bs only u in
+    (IsCharBoundary-from_drop bs (prefix_len p bs) f.within f.utf8, sym f.rest ∙ ap (λ (n : ℕ). drop n (chars bs)) (sym same))
+
 -- the place at which the text is cut after the ASCII characters
 pub name_cut : (bs : List ℕ) (n : ℕ) → IsUtf8 bs → n ≡ prefix_len is_word bs → IsCharBoundary bs n × (after_run (chars (drop n bs)) ≡ after_run (chars bs))
 name_cut bs n u is =
-    let m : ℕ = prefix_len is_word bs in
-    let f = passing_front is_word bs words_are_ascii u in
-    let same : after_run (chars (drop m bs)) ≡ after_run (chars bs) =
-    ap after_run (sym f.rest) ∙ (ap (λ (k : ℕ). after_run (drop k (chars bs))) (sym (prefix_len-chars is_word bs words_are_ascii u)) ∙ sym (run_from (chars bs))) in
-    subst (λ (k : ℕ). IsCharBoundary bs k × (after_run (chars (drop k bs)) ≡ after_run (chars bs))) (sym is) (IsCharBoundary-from_drop bs m f.within f.utf8, same)
+    let cut = ascii_front is_word words_are_ascii bs u in
+    subst (λ (k : ℕ). IsCharBoundary bs k × (after_run (chars (drop k bs)) ≡ after_run (chars bs))) (sym is) (cut.0, ap after_run cut.1 ∙ sym (run_from (chars bs)))
 
 -- no more characters pass before an ASCII character that does not
 ends_at : (bs : List ℕ) → first_passes is_word bs ≡ false → first_passes (nat_le 128) bs ≡ false → after_run (chars bs) ≡ chars bs
@@ -57,8 +61,7 @@ name_ends bs rest n u is back narrow =
 -- bools, by their first bytes
 
 bool_low : (b : Bool) → list_all (λ c. ltb c 128) (bool_text b) ≡ true
-bool_low true = refl
-bool_low false = refl
+bool_low b = grind arith
 
 pub bool_front : (bs : List ℕ) (b : Bool) (n : ℕ) → IsUtf8 bs → begins_with (bool_text b) bs ≡ true → n ≡ length (bool_text b) → IsCharBoundary bs n × (bool_text b ++ chars (drop n bs) ≡ chars bs)
 bool_front bs b n u begins is =

@@ -1,5 +1,5 @@
 -- A text has at most one literal at its front.
-use Rattle.std.proofs.Common.{◌≡◌, ◌⊎◌, inl, inr, ℕ, Bool, true, false, List, [], ◌∷◌, ◌++◌, refl, sym, ap, subst, ◌∙◌}
+use Rattle.std.proofs.Common.{◌≡◌, ◌⊎◌, inl, inr, ℕ, Bool, true, false, List, [], ◌∷◌, ◌++◌, refl, sym, ap, subst, ◌∙◌, arith}
 use Rattle.std.specs.Prelude.{if◌then◌else◌}
 use Rattle.std.specs.Char.{is_ascii_digit}
 use Rattle.std.proofs.lemmas.Bool.{and_parts, true≢false}
@@ -17,11 +17,11 @@ use Rattle.litrs_grammar.proofs.Laws.Literal.{dispatch_literal, is_bool-digit, l
 use Rattle.litrs_prefix.specs.Prefix.{ends_suffix, ends_bool, HasPrefix}
 use Rattle.litrs_prefix.specs.Laws.{PrefixesAreUnique}
 use Rattle.litrs_prefix.proofs.Numbers.{same_integer, has_mark, integer_mark, float_mark}
-use Rattle.litrs_prefix.proofs.OnlyRest.{only_rest}
+use Rattle.litrs_prefix.proofs.Opened.{only_rest}
 
 -- the kind of a literal, by how it begins
 
-no_literal : (d : Derivation) → IsLiteral [] d → ⊥
+pub no_literal : (d : Derivation) → IsLiteral [] d → ⊥
 unfolding dispatch
 no_literal d h = (let row = dispatch_literal [] d h in cc)
 
@@ -29,10 +29,7 @@ abbrev pub IsNumber : Derivation → Type 0
 IsNumber d = ((x : IntegerParts) × (d ≡ an_integer x)) ⊎ ((x : FloatParts) × (d ≡ a_float x))
 
 pub number_kind : (v : Bool) (d : Derivation) → parsed_as (literal_kind d) ≡ (if v then parsed_as float_literal else parsed_as integer_literal) → IsNumber d
-number_kind v (an_integer x) h = inl (x, refl)
-number_kind v (a_float x) h = inr (x, refl)
-number_kind true d h = absurd cc
-number_kind false d h = absurd cc
+number_kind v d h = grind arith
 
 -- a literal that begins with a digit is a number
 pub number_of : (s r : List ℕ) (d : Derivation) → IsLiteral s d → first_passes is_ascii_digit (s ++ r) ≡ true → IsNumber d
@@ -44,9 +41,7 @@ number_of (c ∷ s) r d h digit = number_kind (begins_float (c ∷ s)) d (sym (d
     row = rw (is_bool-digit (c ∷ s) digit, digit) refl
 
 bool_kind : (v : Bool) (e : Refusal) (d : Derivation) → parsed_as (literal_kind d) ≡ (if v then parsed_as bool_literal else refused_as e) → (b : Bool) × (d ≡ a_bool b)
-bool_kind v e (a_bool b) h = (b, refl)
-bool_kind true e d h = absurd cc
-bool_kind false e d h = absurd cc
+bool_kind v e d h = grind arith
 
 -- one that begins like a bool is a bool
 bool_of : (v : Bool) (s r x : List ℕ) (d : Derivation) → IsLiteral s d → s ++ r ≡ bool_text v ++ x → (b : Bool) × (d ≡ a_bool b)

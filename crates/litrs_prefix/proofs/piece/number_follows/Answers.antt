@@ -4,7 +4,7 @@ use Rattle.std.specs.Str.{chars}
 use Rattle.std.proofs.lemmas.Bool.{true≢false}
 use Rattle.litrs_grammar.proofs.Laws.Number.{integer_begins}
 use Rattle.litrs_prefix.proofs.Judged.{number_before}
-use Rattle.litrs_prefix.proofs.NumberExtents.{integer_alone}
+use Rattle.litrs_prefix.proofs.NumberEnds.{integer_alone}
 use Rattle.litrs_prefix.proofs.piece.number_follows.Goals as goal
 
 pub returns-then-begins_float : goal.returns-then-begins_float

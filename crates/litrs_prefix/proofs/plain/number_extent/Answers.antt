@@ -5,7 +5,7 @@ use Rattle.litrs_base.specs.Text.{first_passes}
 use Rattle.litrs_grammar.specs.Integer.{is_e}
 use Rattle.litrs_prefix.specs.Ends.{is_other_letter}
 use Rattle.litrs_prefix.proofs.Extents.{literal_len, within}
-use Rattle.litrs_prefix.proofs.NumberExtents.{e_first, only_at_e}
+use Rattle.litrs_prefix.proofs.NumberEnds.{e_first, only_at_e}
 use Rattle.litrs_prefix.proofs.plain.number_extent.Goals as goal
 
 pub word_extent-requires-clause-letter : goal.word_extent-requires-clause-letter

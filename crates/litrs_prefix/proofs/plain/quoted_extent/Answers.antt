@@ -3,8 +3,7 @@ use Rattle.std.proofs.Common.{◌≡◌, ℕ, [], ◌∷◌, drop, refl, sym, ap
 use Rattle.std.specs.Str.{chars}
 use Rattle.litrs_prefix.proofs.Ends.{after_first, after_bytes, end_of_end}
 use Rattle.litrs_prefix.proofs.Extents.{literal_len, whole_malformed, only_quoted, quoted_digit}
-use Rattle.litrs_prefix.proofs.PlainLiterals.{before_of, quoted_ends}
-use Rattle.litrs_prefix.proofs.Unclosed.{quoted_unclosed}
+use Rattle.litrs_prefix.proofs.PlainLiterals.{before_of, quoted_ends, quoted_unclosed}
 use Rattle.litrs_prefix.proofs.plain.quoted_extent.Goals as goal
 
 pub split_at-requires : goal.split_at-requires

@@ -6,8 +6,7 @@ use Rattle.unicode_ident.specs.Ident.{is_xid_continue}
 use Rattle.litrs_base.specs.Text.{first_passes}
 use Rattle.litrs_prefix.proofs.Ends.{after_bytes, end_of_end}
 use Rattle.litrs_prefix.proofs.Extents.{literal_len, whole_malformed, only_raw, raw_digit}
-use Rattle.litrs_prefix.proofs.PlainLiterals.{before_of}
-use Rattle.litrs_prefix.proofs.Unclosed.{body_starts, stop_in, closing_in, nothing_left, raw_ends, raw_unclosed}
+use Rattle.litrs_prefix.proofs.PlainLiterals.{before_of, body_starts, stop_in, closing_in, nothing_left, raw_ends, raw_unclosed}
 use Rattle.litrs_prefix.proofs.plain.raw_body_extent.Goals as goal
 
 pub body_end-end-requires : goal.body_end-end-requires

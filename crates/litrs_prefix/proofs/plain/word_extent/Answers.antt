@@ -5,8 +5,7 @@ use Rattle.std.specs.Str.{chars}
 use Rattle.std.proofs.lemmas.Bool.{true≢false}
 use Rattle.litrs_lex.proofs.SuffixBytes.{is_word}
 use Rattle.litrs_prefix.proofs.Judged.{integer_before, judged_prefix}
-use Rattle.litrs_prefix.proofs.NumberEnds.{only_without_integer}
-use Rattle.litrs_prefix.proofs.NumberExtents.{word_malformed}
+use Rattle.litrs_prefix.proofs.NumberEnds.{only_without_integer, word_malformed}
 use Rattle.litrs_prefix.proofs.Runs.{name_cut}
 use Rattle.litrs_prefix.proofs.plain.word_extent.Goals as goal
 

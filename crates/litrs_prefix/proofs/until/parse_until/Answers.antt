@@ -10,8 +10,8 @@ use Rattle.litrs.proofs.MovedRefusals.{error_moves}
 use Rattle.litrs_lex.proofs.CharCuts.{byte_len-all}
 use Rattle.litrs_prefix.specs.Ends.{IsEndOf}
 use Rattle.litrs_prefix.specs.Until.{after_literal, from_delimiter, before_delimiter, StartsWithDelimiter}
-use Rattle.litrs_prefix.proofs.Delimiters.{delimiter_end, starts_with_delimiter, before_front, bytes_end, refused_marks, taken, front_fits}
-use Rattle.litrs_prefix.proofs.Ends.{after_bytes, end_of_end}
+use Rattle.litrs_prefix.proofs.Delimiters.{delimiter_end, starts_with_delimiter, before_front, refused_marks, taken, front_fits}
+use Rattle.litrs_prefix.proofs.Ends.{after_bytes, bytes_spell, end_of_end}
 use Rattle.litrs_prefix.proofs.until.parse_until.Goals as goal
 
 pub before-front-requires : goal.before-front-requires
@@ -50,7 +50,7 @@ returns-in-Ok-clause-end c =
     let utf8 : IsUtf8 text = subst (λ (l : List ℕ). IsUtf8 l) (sym c.split_at.ensures.back) (IsUtf8-drop source c.args.start c.utf8.source c.requires) in
     let end = delimiter_end (chars c.args.delimiters.now) (chars text) in
     end_of_end source text rest (after_bytes source text c.args.start c.split_at.ensures.back)
-    (bytes_end text rest end.0 utf8 c.from_delimiter-rest.utf8 (ap (λ (l : List ℕ). end.0 ++ l) c.from_delimiter-rest.ensures ∙ end.1))
+    (_, bytes_spell text rest end.0 utf8 c.from_delimiter-rest.utf8 (ap (λ (l : List ℕ). end.0 ++ l) c.from_delimiter-rest.ensures ∙ end.1))
 
 pub offset_span-requires : goal.offset_span-requires
 offset_span-requires c =
