@@ -44,9 +44,6 @@ whole_malformed bs u opens_at after digit invalid =
 
 -- no front of another kind than a number starts with a digit
 
-pub char_digit : (kind : CharKind) (t x : List ℕ) → t ≡ char_front kind ++ x → first_passes is_ascii_digit t ≡ false
-char_digit kind t x is = rw is (grind arith)
-
 pub quoted_digit : (kind : StringKind) (t x : List ℕ) → t ≡ quoted_front kind ++ x → first_passes is_ascii_digit t ≡ false
 quoted_digit kind t x is = rw is (grind arith)
 
@@ -54,7 +51,7 @@ pub raw_digit : (kind : StringKind) (t x : List ℕ) → t ≡ raw_front kind ++
 raw_digit kind t x is = rw is (grind arith)
 
 pub only_char : (kind : CharKind) (t x : List ℕ) → t ≡ char_front kind ++ x → IsOnlyRest t (after_opened t)
-only_char kind t x is = only_unless_digit t (char_digit kind t x is)
+only_char kind t x is = only_unless_digit t (rw is (grind arith))
 
 pub only_quoted : (kind : StringKind) (t x : List ℕ) → t ≡ quoted_front kind ++ x → IsOnlyRest t (after_opened t)
 only_quoted kind t x is = only_unless_digit t (quoted_digit kind t x is)

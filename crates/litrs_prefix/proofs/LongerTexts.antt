@@ -1,15 +1,11 @@
 -- A literal at the front of a text, and of longer ones.
-use Rattle.std.proofs.Common.{◌≡◌, ℕ, true, List, [], ◌∷◌, ◌++◌, sym, ap, ◌∙◌, append_assoc, append-nil, arith}
+use Rattle.std.proofs.Common.{◌≡◌, ℕ, true, List, ◌∷◌, ◌++◌, sym, ap, ◌∙◌, append_assoc, append-nil, arith}
 use Rattle.litrs_grammar.specs.Literal.{Derivation}
 use Rattle.litrs_prefix.specs.Prefix.{may_follow}
 use Rattle.litrs_prefix.specs.Laws.{LiteralsAreTheirPrefix, PrefixesStay}
 
--- nothing may follow every literal
-nothing_follows : (d : Derivation) → may_follow d [] ≡ true
-nothing_follows d = grind arith
-
 pub whole : LiteralsAreTheirPrefix
-whole t d h = record { front = t; spells = append-nil t; literal = h; follows = nothing_follows d }
+whole t d h = record { front = t; spells = append-nil t; literal = h; follows = grind arith }
 
 -- a period at the end of the text gives way at most
 more_follows : (d : Derivation) (c : ℕ) (rest more : List ℕ) → may_follow d (c ∷ rest) ≡ true → may_follow d (c ∷ (rest ++ more)) ≡ true

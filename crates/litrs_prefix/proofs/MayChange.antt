@@ -228,8 +228,7 @@ name_whole : (c : ℕ) (t m : List ℕ) → is_empty (after_name (c ∷ t)) ≡ 
 name_whole c t m h = grind (arith, run_whole t m)
 
 bool_is_text : (b : Bool) → list_all is_scalar (bool_text b) ≡ true
-bool_is_text true = refl
-bool_is_text false = refl
+bool_is_text b = grind arith
 
 begins_bool : (t z : List ℕ) → is_bool (t ++ z) ≡ true → Begins literal_parse t
 begins_bool t z h =

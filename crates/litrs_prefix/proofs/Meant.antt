@@ -27,15 +27,13 @@ closing_here n t h = grind arith
 pub closing_later : (n c : ℕ) (t : List ℕ) → begins_with (raw_closing n) (c ∷ t) ≡ false → after_closing n (c ∷ t) ≡ after_closing n t
 closing_later n c t h = grind arith
 
-other_side : (b v : Bool) → not b ≡ v → b ≡ not v
-other_side b v h = grind arith
-
 -- the hashes after a quote, in bytes
 pub quote_hashes : (n : ℕ) (bytes rest after : List ℕ) (c : ℕ) (v : Bool) → bytes ≡ rest → rest ≡ encode_utf8 c ++ after → c ≡ 34 →
     (first_passes is_quote bytes && not (begins_with (raw_closing n) bytes)) ≡ v → begins_with (hashes n) after ≡ not v
 quote_hashes n bytes rest after c v same is quote inner =
     let whole : bytes ≡ 34 ∷ after = same ∙ (is ∙ ap (λ (l : List ℕ). l ++ after) (ap encode_utf8 quote ∙ encode_ascii 34 (omega arith))) in
-    other_side (begins_with (hashes n) after) v (subst (λ (l : List ℕ). (first_passes is_quote l && not (begins_with (raw_closing n) l)) ≡ v) whole inner)
+    let inner : not (begins_with (hashes n) after) ≡ v = subst (λ (l : List ℕ). (first_passes is_quote l && not (begins_with (raw_closing n) l)) ≡ v) whole inner in
+    grind arith
 
 hashes_low : (n : ℕ) → list_all (λ c. ltb c 128) (hashes n) ≡ true
 hashes_low zero = refl

@@ -88,11 +88,8 @@ pub exponent_end : (t : List ℕ) → IsEndOf t (after_exponent t)
 exponent_end [] = whole []
 exponent_end (c ∷ t) = either _ _ _ _ (next c t _ (end_of_end t (after_sign t) _ (sign_end t) (digits_end (after_sign t)))) (whole (c ∷ t))
 
-digit_passes : (c : ℕ) → is_ascii_digit c ≡ true → is_decimal_char c ≡ true
-digit_passes c h = grind (arith, nat_tests)
-
 first_digit : (c : ℕ) (t : List ℕ) → is_ascii_digit c ≡ true → IsEndOf t (after_digits (c ∷ t))
-first_digit c t h = subst (λ (l : List ℕ). IsEndOf t l) (sym (digits_are c t ∙ if_true _ _ _ (digit_passes c h))) (digits_end t)
+first_digit c t h = subst (λ (l : List ℕ). IsEndOf t l) (sym (digits_are c t ∙ if_true (is_decimal_char c) _ _ (grind (arith, nat_tests)))) (digits_end t)
 
 number_end : (c : ℕ) (t : List ℕ) → is_ascii_digit c ≡ true → IsEndOf t (after_number (c ∷ t))
 number_end c t h =

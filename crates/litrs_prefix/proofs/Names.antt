@@ -109,9 +109,6 @@ pub data Opening : List ℕ → Type 0 where
 pub first_of_bool : (v : Bool) (c : ℕ) (l : List ℕ) → is_bool (if v then c ∷ l else []) ≡ true → (c ≡ 116) ⊎ (c ≡ 102)
 first_of_bool v c l h = grind (arith, nat_tests)
 
-with_first : (c : ℕ) (t : List ℕ) → opens (c ∷ t) ≡ true → Opening (c ∷ t)
-with_first c t h = grind (arith, nat_tests, digit, double, single, raw, bytes, c_string, word_true, word_false, first_of_bool)
-
 pub opening : (t : List ℕ) → opens t ≡ true → Opening t
 opening [] h = absurd (false≢true h)
-opening (c ∷ t) h = with_first c t h
+opening (c ∷ t) h = grind (arith, nat_tests, digit, double, single, raw, bytes, c_string, word_true, word_false, first_of_bool)

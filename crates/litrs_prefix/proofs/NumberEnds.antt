@@ -10,8 +10,7 @@ use Rattle.std.proofs.lemmas.List.{drop_at}
 use Rattle.std.proofs.lemmas.Str.{IsUtf8-drop}
 use Rattle.litrs_base.specs.Base.{prefix, is_digit_or_underscore}
 use Rattle.litrs_base.specs.Text.{first_passes}
-use Rattle.litrs_base.specs.declared.integer.IntegerBase.{IntegerBase}
-use Rattle.litrs_base.proofs.Chars.{OnlyAscii, first_passes-chars}
+use Rattle.litrs_base.proofs.Chars.{first_passes-chars}
 use Rattle.litrs_base.proofs.Runs.{list_all-append, list_all-weaken}
 use Rattle.litrs_grammar.specs.Float.{is_decimal_char, IsFloatOf}
 use Rattle.litrs_grammar.specs.Integer.{IntegerParts, IsIntegerOf, is_e}
@@ -42,11 +41,8 @@ use Rattle.litrs_prefix.proofs.Runs.{ascii_front, name_cut, name_ends, run_past}
 use Rattle.litrs_prefix.proofs.Unique.{number_of}
 use Rattle.litrs_lex.specs.declared.kind.Front.TheVariants as front
 
-decimals_are_ascii : OnlyAscii is_decimal_char
-decimals_are_ascii c high = grind (arith, nat_tests)
-
 pub digits_front : (bs : List ℕ) → IsUtf8 bs → IsCharBoundary bs (prefix_len is_decimal_char bs) × (chars (drop (prefix_len is_decimal_char bs) bs) ≡ after_digits (chars bs))
-digits_front bs u = ascii_front is_decimal_char decimals_are_ascii bs u
+digits_front bs u = ascii_front is_decimal_char (λ c high. grind (arith, nat_tests)) bs u
 
 -- no other rest, if no integer without a suffix is at the front
 pub only_unless : (t : List ℕ) → ((r : List ℕ) (x : IntegerParts) → HasPrefix t (an_integer x) r → x.suffix ≡ [] → ⊥) → IsOnlyRest t (after_opened t)
@@ -76,17 +72,11 @@ only_at_fraction t a at_period digit = only_at_mark t (ap is_mark at_period ∙ 
 
 -- an integer without a suffix has only characters of names
 
-prefix_words : (base : IntegerBase) → list_all is_word (prefix base) ≡ true
-prefix_words base = grind arith
-
-digit_word : (base : IntegerBase) (c : ℕ) → is_digit_or_underscore base c ≡ true → is_word c ≡ true
-digit_word base c h = grind (arith, nat_tests)
-
 words : (l : List ℕ) (x : IntegerParts) → IsIntegerOf l x → x.suffix ≡ [] → list_all is_word l ≡ true
 words l x h bare =
     subst (λ (t : List ℕ). list_all is_word t ≡ true) h.spells
-    (list_all-append is_word (prefix x.base) (x.main ++ x.suffix) (prefix_words x.base)
-    (list_all-append is_word x.main x.suffix (list_all-weaken (is_digit_or_underscore x.base) is_word (digit_word x.base) x.main h.grammar.digits) (ap (list_all is_word) bare)))
+    (list_all-append is_word (prefix x.base) (x.main ++ x.suffix) (grind arith)
+    (list_all-append is_word x.main x.suffix (list_all-weaken (is_digit_or_underscore x.base) is_word (λ c digit. grind (arith, nat_tests)) x.main h.grammar.digits) (ap (list_all is_word) bare)))
 
 word_ends : (r : List ℕ) → ends_suffix [] r ≡ true → first_passes is_ascii_digit r ≡ false → first_passes is_word r ≡ false
 word_ends r e d = grind (arith, nat_tests, no_start)
@@ -123,12 +113,9 @@ integer_alone bs r None u is none h = number_before bs r None u is h (λ d f. tr
 letter_starts : (c : ℕ) → is_ascii_alphabetic c ≡ true → starts_identifier c ≡ true
 letter_starts c h = (let low : c < 128 = grind (arith, nat_tests) in or_right (c == 95) _ (is_xid_start-ascii c low ∙ h))
 
-e_ascii : OnlyAscii is_e
-e_ascii c high = or_from _ _ (ne_eqb c 101 (λ e. omega arith)) (ne_eqb c 69 (λ e. omega arith))
-
 -- the first byte decides
 pub e_first : (bs t : List ℕ) → IsUtf8 bs → chars bs ≡ t → first_passes is_e bs ≡ true → first_passes is_e t ≡ true
-e_first bs t u is h = ap (first_passes is_e) (sym is) ∙ (first_passes-chars is_e bs e_ascii u ∙ h)
+e_first bs t u is h = ap (first_passes is_e) (sym is) ∙ (first_passes-chars is_e bs (λ c high. or_from _ _ (ne_eqb c 101 (λ e. omega arith)) (ne_eqb c 69 (λ e. omega arith))) u ∙ h)
 
 -- before another letter
 

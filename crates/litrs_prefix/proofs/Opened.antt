@@ -157,11 +157,8 @@ body_passed w (a ∷ items) x h =
     ap (past_quote 34 false) (append_assoc (item_text a) (body_text items) (34 ∷ x))
     ∙ (item_passed w a (body_text items ++ 34 ∷ x) (and_parts _ _ p.0).0 ∙ body_passed w items x p.1)
 
-quoted_body : (kind : StringKind) (y : List ℕ) → after_body (quoted_front kind ++ y) ≡ after_quoted y
-quoted_body kind y = grind arith
-
 pub quoted_opened : (kind : StringKind) (y : List ℕ) → after_opened (quoted_front kind ++ y) ≡ after_name (past_quote 34 false y)
-quoted_opened kind y = ap after_name (quoted_body kind y ∙ sym (past_quote_is 34 refl y))
+quoted_opened kind y = (let body : after_body (quoted_front kind ++ y) ≡ after_quoted y = grind arith in ap after_name (body ∙ sym (past_quote_is 34 refl y)))
 
 quoted_rest : (kind : StringKind) (s r : List ℕ) (q : QuotedParts) → IsQuotedLiteral kind s q → ends_suffix q.suffix r ≡ true → after_opened (s ++ r) ≡ r
 quoted_rest kind s r q h e =
@@ -184,13 +181,11 @@ item_closed kind (escaped_char e) x h =
     ap (λ (l : List ℕ). after_char (l ++ 39 ∷ x)) is.spells
     ∙ (sym (past_single_quote_is (92 ∷ is.second ∷ (is.tail ++ 39 ∷ x))) ∙ (line_second is.second (is.tail ++ 39 ∷ x) is.same_line ∙ line_passed is.tail (39 ∷ x) is.inner))
 
-char_body : (kind : CharKind) (y : List ℕ) → after_body (char_front kind ++ y) ≡ after_char y
-char_body kind y = grind arith
-
 char_rest : (kind : CharKind) (s r : List ℕ) (d : CharParts) → IsCharLiteral kind s d → ends_suffix d.suffix r ≡ true → after_opened (s ++ r) ≡ r
 char_rest kind s r d h e =
     let y : List ℕ = char_item_text d.item ++ 39 ∷ (d.suffix ++ r) in
-    ap after_opened (longer_char kind s r d h) ∙ (ap after_name (char_body kind y ∙ item_closed kind d.item (d.suffix ++ r) h.item) ∙ name_after d.suffix r h.suffix e)
+    let body : after_body (char_front kind ++ y) ≡ after_char y = grind arith in
+    ap after_opened (longer_char kind s r d h) ∙ (ap after_name (body ∙ item_closed kind d.item (d.suffix ++ r) h.item) ∙ name_after d.suffix r h.suffix e)
 
 -- raw strings
 

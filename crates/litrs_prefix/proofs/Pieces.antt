@@ -2,7 +2,7 @@
 use Rattle.std.proofs.Common.{◌≡◌, ◌⊎◌, ℕ, ◌+◌, ◌<◌, ◌^◌, List, ◌++◌, length, take, drop, None, true, sym, ap, subst, inl, inr, ◌∙◌, append_assoc, append-nil, length-take, [], ◌∷◌, ◌-◌, ◌≤◌, refl, arith}
 use Rattle.std.specs.Str.{chars, IsUtf8, IsCharBoundary}
 use Rattle.std.proofs.lemmas.Str.{chars-append, chars-nil, encodes-chars, IsUtf8-from_ascii, IsUtf8-take}
-use Rattle.litrs_base.proofs.Chars.{OnlyAscii, ascii_by_test, chars_ascii, first_passes-chars}
+use Rattle.litrs_base.proofs.Chars.{ascii_by_test, chars_ascii, first_passes-chars}
 use Rattle.std.proofs.lemmas.Bool.{eqb-true, ne_eqb}
 use Rattle.std.proofs.lemmas.List.{take-append-drop, append_cancel_right}
 use Rattle.litrs_base.specs.declared.err.ParseError.{ParseError}
@@ -105,13 +105,10 @@ last_period bs front u is =
     let at = end_at bs _ (46 ∷ []) v spells in
     (at.0, at.1, not_longer bs (46 ∷ []) (_, spells))
 
-period_is_ascii : OnlyAscii is_period
-period_is_ascii c wide = ne_eqb c 46 (λ e. omega arith)
-
 -- one byte that begins with a period is a period
 pub one_period : (last : List ℕ) → IsUtf8 last → length last ≡ 1 → first_passes is_period (chars last) ≡ true → last ≡ 46 ∷ []
 one_period [] u one h = absurd (omega arith)
-one_period (c ∷ []) u one h = ap (λ (k : ℕ). k ∷ []) (eqb-true c 46 (sym (first_passes-chars is_period (c ∷ []) period_is_ascii u) ∙ h))
+one_period (c ∷ []) u one h = ap (λ (k : ℕ). k ∷ []) (eqb-true c 46 (sym (first_passes-chars is_period (c ∷ []) (λ d wide. ne_eqb d 46 (λ e. omega arith)) u) ∙ h))
 one_period (c ∷ d ∷ last) u one h = absurd (omega arith)
 
 pub before_period : (bs front last : List ℕ) (n : ℕ) → IsUtf8 bs → IsCharBoundary bs n → front ≡ take n bs → last ≡ drop n bs → last ≡ 46 ∷ [] → chars front ++ 46 ∷ [] ≡ chars bs

@@ -35,7 +35,7 @@ use Rattle.litrs_prefix.proofs.Numbers.{longer_integer, longer_float}
 use Rattle.litrs_prefix.proofs.Judged.{string_at, to_string, string_follows, quoted_of, raw_of}
 use Rattle.litrs_base.specs.Derivations.{HasNoDerivation}
 use Rattle.litrs_base.proofs.Begins.{begins_with-append}
-use Rattle.litrs_base.proofs.Chars.{OnlyAscii, chars_ascii, first_passes-chars}
+use Rattle.litrs_base.proofs.Chars.{chars_ascii, first_passes-chars}
 use Rattle.litrs_base.proofs.Spans.{is_ascii_char}
 use Rattle.litrs_grammar.specs.Raw.{is_quote, RawParts, IsRawBody, IsRawLiteral, raw_text, raw_closing, hashes, hash_len, length_before, has_unicode, allows_nul}
 use Rattle.litrs_grammar.specs.Laws.Raw.{NoClosingIn}
@@ -76,9 +76,6 @@ before_of bs rest r end u h is = record { end = end; utf8 = u; literal = h.0; at
 
 -- digits
 
-first_taken : (t : List ℕ) → first_passes is_ascii_digit t ≡ true → first_passes is_ascii_digit (take_while is_decimal_char t) ≡ true
-first_taken t h = grind (arith, nat_tests)
-
 -- digits and underscores at the front, a digit first, and what follows them
 record Digits (t : List ℕ) : Type 0 where
   main : List ℕ
@@ -87,23 +84,17 @@ record Digits (t : List ℕ) : Type 0 where
   first : first_passes is_ascii_digit main ≡ true
   ends : first_passes is_ascii_digit (after_digits t) ≡ false
 
-no_digit : (x : List ℕ) → first_passes is_decimal_char x ≡ false → first_passes is_ascii_digit x ≡ false
-no_digit x h = grind (arith, nat_tests)
-
 digits_of : (t : List ℕ) → first_passes is_ascii_digit t ≡ true → Digits t
 digits_of t h = record {
   main = take_while is_decimal_char t;
   spells = take-append-drop (prefix_len is_decimal_char t) t;
   all = list_all-take_while is_decimal_char t;
-  first = first_taken t h;
-  ends = no_digit (after_digits t) (first_passes-rest is_decimal_char t);
+  first = grind (arith, nat_tests);
+  ends = grind (arith, nat_tests, first_passes-rest is_decimal_char t);
 }
 
 some_digit : (m : List ℕ) → first_passes is_ascii_digit m ≡ true → list_any is_ascii_digit m ≡ true
 some_digit m h = grind arith
-
-decimal_literal : (m : List ℕ) → list_all is_decimal_char m ≡ true → first_passes is_ascii_digit m ≡ true → is_decimal_literal m ≡ true
-decimal_literal m all first = and_from _ _ first all
 
 no_prefix : (m : List ℕ) → list_all is_decimal_char m ≡ true → has_prefix m ≡ false
 no_prefix m all = grind (arith, nat_tests)
@@ -137,19 +128,10 @@ no_period t h = grind arith
 pub period_first : (t a : List ℕ) (c : ℕ) → t ≡ c ∷ a → first_passes is_period t ≡ true → t ≡ 46 ∷ a
 period_first t a c is h = is ∙ ap (λ (k : ℕ). k ∷ a) (eqb-true c 46 (ap (first_passes is_period) (sym is) ∙ h))
 
-period_starts_nothing : starts_identifier 46 ≡ false
-period_starts_nothing = is_xid_start-ascii 46 (omega arith)
-
 pub kept_period : (t a : List ℕ) → first_passes is_ascii_digit t ≡ true → after_digits t ≡ 46 ∷ a → keeps_period a ≡ true → HasLiteral t (after_digits t)
-kept_period t a h at keeps = integer_at t h (ap (first_passes starts_identifier) at ∙ period_starts_nothing) (ap gives_period at ∙ ap not keeps)
+kept_period t a h at keeps = integer_at t h (ap (first_passes starts_identifier) at ∙ is_xid_start-ascii 46 (omega arith)) (ap gives_period at ∙ ap not keeps)
 
 -- a float
-
-form_of : (f : List ℕ) → is_decimal_literal f ≡ true → is_float_form (Some f) [] [] ≡ true
-form_of f h = grind arith
-
-some_fraction : (f : List ℕ) → is_decimal_literal f ≡ true → is_bare (Some f) ≡ false
-some_fraction f h = grind arith
 
 float_at : (t f r : List ℕ) → (m : Digits t) → after_digits t ≡ 46 ∷ (f ++ r) → is_float_form (Some f) [] [] ≡ true → first_passes starts_identifier r ≡ false →
     first_passes is_ascii_digit r ≡ false → (first_passes is_period r && is_bare (Some f)) ≡ false → HasLiteral t r
@@ -158,7 +140,7 @@ float_at t f r m at form name digit bare =
     let is : IsFloatOf (float_text d) d = record {
       spells = refl;
       grammar = record {
-        integer = decimal_literal m.main m.all m.first;
+        integer = and_from _ _ m.first m.all;
         form = form;
         suffix = is_suffix-nil;
         no_underscore = refl;
@@ -171,9 +153,9 @@ float_at t f r m at form name digit bare =
 pub fraction_at : (t a : List ℕ) → first_passes is_ascii_digit t ≡ true → after_digits t ≡ 46 ∷ a → first_passes is_ascii_digit a ≡ true → first_passes starts_identifier (after_digits a) ≡ false → HasLiteral t (after_digits a)
 fraction_at t a h at digit name =
     let f = digits_of a digit in
-    let literal = decimal_literal f.main f.all f.first in
-    float_at t f.main (after_digits a) (digits_of t h) (at ∙ ap (λ (l : List ℕ). 46 ∷ l) (sym f.spells)) (form_of f.main literal) name f.ends
-    (and_right (first_passes is_period (after_digits a)) (is_bare (Some f.main)) (some_fraction f.main literal))
+    let literal : is_decimal_literal f.main ≡ true = and_from _ _ f.first f.all in
+    float_at t f.main (after_digits a) (digits_of t h) (at ∙ ap (λ (l : List ℕ). 46 ∷ l) (sym f.spells)) (grind arith) name f.ends
+    (and_right (first_passes is_period (after_digits a)) (is_bare (Some f.main)) (grind arith))
 
 pub bare_at : (t a : List ℕ) → first_passes is_ascii_digit t ≡ true → after_digits t ≡ 46 ∷ a → first_passes is_ascii_digit a ≡ false → keeps_period a ≡ false → HasLiteral t a
 bare_at t a h at digit keeps =
@@ -264,14 +246,11 @@ pub stop_in : (kind : StringKind) (w : Switches) (n start end : ℕ) (bytes body
 stop_in kind w n start end bytes body same_switches same s =
     stop_of _ _ n start end bytes body same (subst (λ (v : Switches). IsStop v.unicode v.allow_nul n start bytes end) same_switches s)
 
-quote_is_ascii : OnlyAscii is_quote
-quote_is_ascii c wide = ne_eqb c 34 (λ e. omega arith)
-
 pub closing_in : (u a : Bool) (n start end : ℕ) (bytes body closing : List ℕ) → bytes ≡ body → IsStop u a n start body end → closing ≡ drop end body →
     (first_passes is_quote (drop end bytes) ≡ true → begins_with (raw_closing n) (drop end bytes) ≡ true) → first_passes is_quote (chars closing) ≡ true → Closing n end body
 closing_in u a n start end bytes body closing same s back closes quote =
     let here : first_passes is_quote (drop end body) ≡ true =
-    sym (first_passes-chars is_quote (drop end body) quote_is_ascii s.utf8) ∙ (ap (λ (l : List ℕ). first_passes is_quote (chars l)) (sym back) ∙ quote) in
+    sym (first_passes-chars is_quote (drop end body) (λ c wide. ne_eqb c 34 (λ e. omega arith)) s.utf8) ∙ (ap (λ (l : List ℕ). first_passes is_quote (chars l)) (sym back) ∙ quote) in
     closing_at n end body s.within s.utf8
     (subst (λ (l : List ℕ). first_passes is_quote (drop end l) ≡ true → begins_with (raw_closing n) (drop end l) ≡ true) same closes here)
 
