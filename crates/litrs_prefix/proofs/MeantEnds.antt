@@ -291,14 +291,12 @@ hashes_kept (c ∷ t) m h = grind (arith, hashes_kept t m)
 
 begins_longer : (p t m : List ℕ) → begins_with p t ≡ true → begins_with p (t ++ m) ≡ true
 begins_longer [] t m h = refl
-begins_longer (c ∷ p) [] m h = absurd (false≢true h)
-begins_longer (c ∷ p) (d ∷ t) m h = grind (arith, begins_longer p t m)
+begins_longer (c ∷ p) t m h = grind (arith, begins_longer p)
 
 -- a part that begins in the text alone with more is longer than it
 straddles : (p t m : List ℕ) → begins_with p t ≡ false → begins_with p (t ++ m) ≡ true → 1 + length t ≤ length p
 straddles [] t m h g = absurd (true≢false h)
-straddles (c ∷ p) [] m h g = omega arith
-straddles (c ∷ p) (d ∷ t) m h g = grind (arith, straddles p t m)
+straddles (c ∷ p) t m h g = grind (arith, straddles p)
 
 closing_grows : (n : ℕ) (t m : List ℕ) → Grown m (after_closing n t) (after_closing n (t ++ m))
 closing_grows n [] m = inr (drop_all _ [] (omega arith), after_drop _ m)

@@ -47,7 +47,7 @@ digits_front bs u = ascii_front is_decimal_char (λ c high. grind (arith, nat_te
 -- no other rest, if no integer without a suffix is at the front
 pub only_unless : (t : List ℕ) → ((r : List ℕ) (x : IntegerParts) → HasPrefix t (an_integer x) r → x.suffix ≡ [] → ⊥) → IsOnlyRest t (after_opened t)
 only_unless t none = λ d r at. elim (only_rest t d r at) [
-  | inl is ↦ is
+  | inl is ↦ sym is
   | inr (x, is, bare) ↦ absurd (none r x (subst (λ (e : Derivation). HasPrefix t e r) is at) bare)
 ]
 

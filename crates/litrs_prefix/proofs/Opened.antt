@@ -10,7 +10,7 @@ use Rattle.litrs_base.specs.declared.quotes.StringKind.TheVariants.{String as st
 use Rattle.litrs_base.specs.declared.quotes.CharKind.TheVariants.{Char as char_kind, Byte as byte_kind}
 use Rattle.litrs_base.specs.Quotes.{switches_of, quoted_front, raw_front, char_front}
 use Rattle.litrs_grammar.specs.Suffix.{starts_identifier, is_suffix}
-use Rattle.litrs_grammar.specs.Bool.{bool_text, is_bool}
+use Rattle.litrs_grammar.specs.Bool.{bool_text}
 use Rattle.litrs_grammar.specs.CharByte.{CharItem, plain_char, escaped_char, char_item_text, is_char_item, CharParts, IsCharLiteral}
 use Rattle.litrs_grammar.specs.Raw.{hashes, raw_closing, RawParts, IsRawLiteral, occurs}
 use Rattle.litrs_grammar.specs.Literal.{StringParts, quoted_parts, raw_parts, IsString, Derivation, a_bool, an_integer, a_float, a_char, a_byte, a_string, a_byte_string, a_c_string, IsLiteral, string_suffix}
@@ -21,7 +21,7 @@ use Rattle.litrs_prefix.specs.Prefix.{may_follow, ends_bool, ends_suffix, ends_f
 use Rattle.litrs_prefix.specs.Opens.{after_hashes, begins_lifetime, opens_raw, opens, after_run, after_name}
 use Rattle.litrs_prefix.specs.Laws.{PrefixesOpen}
 use Rattle.litrs_prefix.proofs.Chars.{longer_char, longer_raw, longer}
-use Rattle.litrs_prefix.proofs.Names.{bool_first, quote_stops, backslash_stops, run_after, name_after, bool_after}
+use Rattle.litrs_prefix.proofs.Names.{quote_stops, backslash_stops, run_after, name_after, bool_after}
 use Rattle.std.specs.List.{list_all}
 use Rattle.std.proofs.lemmas.Bool.Decides.{nat_tests}
 use Rattle.unicode_ident.specs.Ident.{is_xid_continue}
@@ -51,8 +51,7 @@ open_digit : (t : List ℕ) → first_passes is_ascii_digit t ≡ true → opens
 open_digit t h = grind arith
 
 open_bool : (b : Bool) (r : List ℕ) → ends_bool r ≡ true → opens (bool_text b ++ r) ≡ true
-open_bool true r h = ap is_bool (bool_first true r h)
-open_bool false r h = ap is_bool (bool_first false r h)
+open_bool b r h = grind (arith, is_xid_start-ascii, is_xid_continue-ascii)
 
 -- a char is not a lifetime
 no_lifetime : (a : CharItem) (x : List ℕ) → begins_lifetime (char_item_text a ++ 39 ∷ x) ≡ false
@@ -254,35 +253,30 @@ base_rest Octal m c x r digits ends suffix letter e =
 base_rest Hexadecimal m c x r digits ends suffix letter e =
     ap after_name (number_parts (48 ∷ 120 ∷ (m ++ (c ∷ (x ++ r))))) ∙ letter_rest Hexadecimal 120 m c x r (is_xid_start-ascii 120 (omega arith)) digits suffix e
 
+-- an integer without a suffix
+abbrev pub IsBare : Derivation → Type 0
+IsBare d = (x : IntegerParts) × (d ≡ an_integer x) × (x.suffix ≡ [])
+
 -- An integer without a suffix may end before what opens there does, as in `1..2`.
 number_rest : (base : IntegerBase) (m x r : List ℕ) → list_all (is_digit_or_underscore base) m ≡ true → first_passes (is_digit_or_underscore base) x ≡ false →
     is_suffix x ≡ true → first_passes is_e x ≡ false → ends_suffix x r ≡ true → (after_name (after_number (prefix base ++ (m ++ (x ++ r)))) ≡ r) ⊎ (x ≡ [])
 number_rest base m [] r digits ends suffix letter e = inr refl
 number_rest base m (c ∷ x) r digits ends suffix letter e = inl (base_rest base m c x r digits ends suffix letter e)
 
-integer_rest : (s r : List ℕ) (d : IntegerParts) → IsIntegerOf s d → ends_suffix d.suffix r ≡ true → (after_opened (s ++ r) ≡ r) ⊎ (d.suffix ≡ [])
+integer_rest : (s r : List ℕ) (d : IntegerParts) → IsIntegerOf s d → ends_suffix d.suffix r ≡ true → (after_opened (s ++ r) ≡ r) ⊎ IsBare (an_integer d)
 integer_rest s r d h e =
     let digit = first_passes-append is_ascii_digit s r (starts_with_digit s d h) in
     let g = h.grammar in
     elim (subst (λ (t : List ℕ). (after_name (after_number t) ≡ r) ⊎ (d.suffix ≡ [])) (sym (longer_integer s r d h)) (number_rest d.base d.main d.suffix r g.digits g.ends g.suffix g.no_exponent e)) [
       | inl is ↦ inl (ap after_name (number_body (s ++ r) digit) ∙ is)
-      | inr bare ↦ inr bare
+      | inr bare ↦ inr (d, refl, bare)
     ]
 
 -- literals of every kind
 
--- an integer without a suffix
-abbrev pub IsBare : Derivation → Type 0
-IsBare d = (x : IntegerParts) × (d ≡ an_integer x) × (x.suffix ≡ [])
-
 front_rest : (s r : List ℕ) (d : Derivation) → IsLiteral s d → may_follow d r ≡ true → (after_opened (s ++ r) ≡ r) ⊎ IsBare d
 front_rest s r (a_bool b) h f = inl (ap (λ (l : List ℕ). after_opened (l ++ r)) (sym h) ∙ (ap after_name (bool_body b r) ∙ bool_after b r f))
-front_rest s r (an_integer d) h f =
-    let p = and_parts (ends_suffix d.suffix r) _ f in
-    elim (integer_rest s r d h p.0) [
-      | inl is ↦ inl is
-      | inr bare ↦ inr (d, refl, bare)
-    ]
+front_rest s r (an_integer d) h f = integer_rest s r d h (and_parts (ends_suffix d.suffix r) _ f).0
 front_rest s r (a_float d) h f = let p = and_parts (ends_suffix d.suffix r) _ f in inl (float_rest s r d h p.0 p.1)
 front_rest s r (a_char d) h f = inl (char_rest char_kind s r d h f)
 front_rest s r (a_byte d) h f = inl (char_rest byte_kind s r d h f)
@@ -290,10 +284,5 @@ front_rest s r (a_string d) h f = inl (string_rest string_kind s r d h f)
 front_rest s r (a_byte_string d) h f = inl (string_rest byte_string_kind s r d h f)
 front_rest s r (a_c_string d) h f = inl (string_rest c_string_kind s r d h f)
 
-pub only_rest : (t : List ℕ) (d : Derivation) (r : List ℕ) → HasPrefix t d r → (r ≡ after_opened t) ⊎ IsBare d
-only_rest t d r at =
-    subst (λ (l : List ℕ). (r ≡ after_opened l) ⊎ IsBare d) at.spells
-    (elim (front_rest at.front r d at.literal at.follows) [
-      | inl is ↦ inl (sym is)
-      | inr bare ↦ inr bare
-    ])
+pub only_rest : (t : List ℕ) (d : Derivation) (r : List ℕ) → HasPrefix t d r → (after_opened t ≡ r) ⊎ IsBare d
+only_rest t d r at = subst (λ (l : List ℕ). (after_opened l ≡ r) ⊎ IsBare d) at.spells (front_rest at.front r d at.literal at.follows)
