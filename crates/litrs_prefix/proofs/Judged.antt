@@ -6,7 +6,7 @@ use Rattle.std.proofs.lemmas.Bool.{true≢false, false≢true}
 use Rattle.litrs_base.specs.declared.err.ParseErrorKind.TheVariants.{InvalidLiteral}
 use Rattle.litrs_base.specs.Derivations.{IsOnlyDerivation, HasNoDerivation}
 use Rattle.litrs_base.specs.Quotes.{quoted_front, raw_front}
-use Rattle.litrs_base.specs.Refusal.{Refusal, without_span}
+use Rattle.litrs_base.specs.Refusal.{without_span}
 use Rattle.litrs_base.specs.Text.{begins_with}
 use Rattle.litrs_base.specs.declared.quotes.CharKind.TheVariants.{Char as char_kind, Byte as byte_kind}
 use Rattle.litrs_base.specs.declared.quotes.StringKind.{StringKind}
@@ -143,15 +143,12 @@ number_before bs r None u is integers floats = λ d h.
 
 -- texts that begin as no literal
 
-refused_row : (d : Derivation) (r : Refusal) → parsed_as (literal_kind d) ≡ refused_as r → ⊥
-refused_row d r h = cc
-
 pub empty_before : (bs r : List ℕ) → IsUtf8 bs → IsFront front.Empty bs → IsJudged None (chars bs) r
-empty_before bs r u is = λ d h. absurd (refused_row d _ (kind_at front.Empty bs _ d u is refl h))
+empty_before bs r u is = λ d h. let row = kind_at front.Empty bs _ d u is refl h in cc
 
 other_row : (bs : List ℕ) (v : Bool) (d : Derivation) → IsUtf8 bs → IsFront front.Other bs →
     parsed_as (literal_kind d) ≡ (if v then parsed_as c_string_literal else refused_as (without_span InvalidLiteral)) → IsLiteral (chars bs) d → ⊥
-other_row bs false d u is row h = refused_row d (without_span InvalidLiteral) row
+other_row bs false d u is row h = cc
 other_row bs true d u is row h =
     let x = string_of c_string_kind (chars bs) d h (dispatch_literal (chars bs) d h ∙ row) in
     no_c_string (chars bs) x.0 (quoted_begins c_string_kind bs u ∙ is.begins.0) (raw_begins c_string_kind bs u ∙ is.begins.1) x.1

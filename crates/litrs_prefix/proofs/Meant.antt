@@ -35,7 +35,7 @@ quote_hashes n bytes rest after c v same is quote inner =
     let inner : not (begins_with (hashes n) after) ≡ v = subst (λ (l : List ℕ). (first_passes is_quote l && not (begins_with (raw_closing n) l)) ≡ v) whole inner in
     grind arith
 
-hashes_low : (n : ℕ) → list_all (λ c. ltb c 128) (hashes n) ≡ true
+pub hashes_low : (n : ℕ) → list_all (λ c. ltb c 128) (hashes n) ≡ true
 hashes_low zero = refl
 hashes_low (suc n) = hashes_low n
 

@@ -1,6 +1,6 @@
 -- Literals that are read once: those without a suffix, before a rest that neither begins nor
 -- continues a name, and strings that are not closed.
-use Rattle.std.proofs.Common.{◌≡◌, ℕ, true, false, not, ◌&&◌, ◌||◌, List, [], ◌∷◌, ◌++◌, drop, Some, refl, sym, ap, subst, ◌∙◌, append-nil, arith, zero, suc, ◌+◌, ◌≤◌, Bool, length, inl, inr, append_assoc}
+use Rattle.std.proofs.Common.{◌≡◌, ℕ, true, false, not, ◌&&◌, ◌||◌, List, [], ◌∷◌, ◌++◌, drop, Some, refl, sym, ap, subst, ◌∙◌, append-nil, arith, ◌+◌, ◌≤◌, Bool, length, inl, inr, append_assoc}
 use Rattle.std.specs.Prelude.{◌==◌, ⊤, encode_utf8_all}
 use Rattle.std.specs.Char.{is_ascii, is_ascii_digit, is_ascii_alphanumeric}
 use Rattle.std.specs.List.{list_all, list_any, prefix_len, take_while}
@@ -30,13 +30,13 @@ use Rattle.litrs_lex.specs.Reading.{IsItemsEnd}
 use Rattle.litrs_lex.proofs.SuffixBytes.{is_suffix-nil}
 use Rattle.litrs_prefix.specs.Ends.{after_digits, IsEndOf, HasLiteralBefore, past_quote}
 use Rattle.litrs_prefix.specs.Prefix.{HasPrefix, may_follow, ends_suffix, is_bare, keeps_period, gives_period}
+use Rattle.litrs_prefix.proofs.Meant.{hashes_low}
 use Rattle.litrs_prefix.proofs.Chars.{longer_char, longer, longer_raw}
 use Rattle.litrs_prefix.proofs.Numbers.{longer_integer, longer_float}
 use Rattle.litrs_prefix.proofs.Judged.{string_at, to_string, string_follows, quoted_of, raw_of}
 use Rattle.litrs_base.specs.Derivations.{HasNoDerivation}
 use Rattle.litrs_base.proofs.Begins.{begins_with-append}
 use Rattle.litrs_base.proofs.Chars.{chars_ascii, first_passes-chars}
-use Rattle.litrs_base.proofs.Spans.{is_ascii_char}
 use Rattle.litrs_grammar.specs.Raw.{is_quote, RawParts, IsRawBody, IsRawLiteral, raw_text, raw_closing, hashes, hash_len, length_before, has_unicode, allows_nul}
 use Rattle.litrs_grammar.specs.Laws.Raw.{NoClosingIn}
 use Rattle.litrs_grammar.proofs.Laws.Raw.{refused}
@@ -208,10 +208,6 @@ raw_at kind t n content r is few body name =
     let lit : IsRawLiteral kind s d = record { spells = refl; grammar = record { hash_count = few; body = body; suffix = is_suffix-nil } } in
     found_string kind (raw_parts d) s r t lit (longer_raw kind s r d lit ∙ sym is) (ap not name)
 
-hashes_are_ascii : (n : ℕ) → list_all is_ascii_char (hashes n) ≡ true
-hashes_are_ascii zero = refl
-hashes_are_ascii (suc n) = hashes_are_ascii n
-
 -- the hashes and the quote, in characters
 opened_raw : (bs : List ℕ) (n start : ℕ) → IsRawOpening 0 bs (n, start) → chars bs ≡ hashes n ++ (34 ∷ chars (drop start bs))
 opened_raw bs n start o =
@@ -221,7 +217,7 @@ opened_raw bs n start o =
     let left : cut.rest ≡ 34 ∷ drop start bs =
     sym (after_hashes cut.count cut.rest) ∙ (ap (drop cut.count) cut.spells ∙ (ap (λ (k : ℕ). drop k bs) place ∙ o.quote)) in
     ap chars (sym cut.spells)
-    ∙ (chars_after (hashes cut.count) cut.rest (hashes_are_ascii cut.count)
+    ∙ (chars_after (hashes cut.count) cut.rest (hashes_low cut.count)
     ∙ ((λ i. hashes (sym count i) ++ chars (left i)) ∙ ap (λ (l : List ℕ). hashes n ++ l) (chars_ascii 34 (drop start bs) (omega arith))))
 
 pub raw_ends : (kind : StringKind) (bs body : List ℕ) (n start end : ℕ) → chars bs ≡ raw_front kind ++ chars body → IsRawOpening 0 body (n, start) →

@@ -30,9 +30,6 @@ pub run_past : (p : ℕ → Bool) → ((c : ℕ) → p c ≡ true → is_xid_con
 run_past p goes [] = refl
 run_past p goes (c ∷ t) = passed_step p c t (goes c) (run_past p goes t) ∙ ap after_run (sym (drop_passed p c t))
 
-run_from : (t : List ℕ) → after_run t ≡ after_run (drop (prefix_len is_word t) t)
-run_from t = run_past is_word (λ c h. is_xid_continue-ascii c (ascii_from_test is_word c words_are_ascii h) ∙ h) t
-
 -- the characters at the front of a text that pass a test of ASCII characters, in bytes
 pub ascii_front : (p : ℕ → Bool) → OnlyAscii p → (bs : List ℕ) → IsUtf8 bs → IsCharBoundary bs (prefix_len p bs) × (chars (drop (prefix_len p bs) bs) ≡ drop (prefix_len p (chars bs)) (chars bs))
 ascii_front p only bs u =
@@ -44,7 +41,8 @@ ascii_front p only bs u =
 pub name_cut : (bs : List ℕ) (n : ℕ) → IsUtf8 bs → n ≡ prefix_len is_word bs → IsCharBoundary bs n × (after_run (chars (drop n bs)) ≡ after_run (chars bs))
 name_cut bs n u is =
     let cut = ascii_front is_word words_are_ascii bs u in
-    subst (λ (k : ℕ). IsCharBoundary bs k × (after_run (chars (drop k bs)) ≡ after_run (chars bs))) (sym is) (cut.0, ap after_run cut.1 ∙ sym (run_from (chars bs)))
+    let goes = λ (c : ℕ) (h : is_word c ≡ true). is_xid_continue-ascii c (ascii_from_test is_word c words_are_ascii h) ∙ h in
+    subst (λ (k : ℕ). IsCharBoundary bs k × (after_run (chars (drop k bs)) ≡ after_run (chars bs))) (sym is) (cut.0, ap after_run cut.1 ∙ sym (run_past is_word goes (chars bs)))
 
 -- no more characters pass before an ASCII character that does not
 ends_at : (bs : List ℕ) → first_passes is_word bs ≡ false → first_passes (nat_le 128) bs ≡ false → after_run (chars bs) ≡ chars bs
