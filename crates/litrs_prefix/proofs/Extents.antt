@@ -1,5 +1,5 @@
 -- Extents of literals, valid or malformed, by what follows them.
-use Rattle.std.proofs.Common.{◌≡◌, ℕ, ◌-◌, ◌≤◌, true, false, List, [], ◌++◌, length, take, drop, None, refl, sym, ap, subst, ◌∙◌, arith}
+use Rattle.std.proofs.Common.{◌≡◌, ℕ, ◌-◌, ◌≤◌, true, false, List, [], ◌∷◌, ◌++◌, length, take, drop, None, refl, sym, ap, subst, ◌∙◌, arith}
 use Rattle.std.specs.Char.{is_ascii_digit}
 use Rattle.std.specs.List.{list_all}
 use Rattle.std.specs.Prelude.{ltb}
@@ -49,28 +49,11 @@ whole_malformed bs u opens_at after digit invalid =
 
 -- no front of another kind than a number starts with a digit
 
-char_no_digit : (kind : CharKind) (x : List ℕ) → first_passes is_ascii_digit (char_front kind ++ x) ≡ false
-char_no_digit char_kind x = refl
-char_no_digit byte_kind x = refl
-
-quoted_no_digit : (kind : StringKind) (x : List ℕ) → first_passes is_ascii_digit (quoted_front kind ++ x) ≡ false
-quoted_no_digit string_kind x = refl
-quoted_no_digit byte_string_kind x = refl
-quoted_no_digit c_string_kind x = refl
-
-raw_no_digit : (kind : StringKind) (x : List ℕ) → first_passes is_ascii_digit (raw_front kind ++ x) ≡ false
-raw_no_digit string_kind x = refl
-raw_no_digit byte_string_kind x = refl
-raw_no_digit c_string_kind x = refl
-
-pub char_digit : (kind : CharKind) (t x : List ℕ) → t ≡ char_front kind ++ x → first_passes is_ascii_digit t ≡ false
-char_digit kind t x is = ap (first_passes is_ascii_digit) is ∙ char_no_digit kind x
-
 pub quoted_digit : (kind : StringKind) (t x : List ℕ) → t ≡ quoted_front kind ++ x → first_passes is_ascii_digit t ≡ false
-quoted_digit kind t x is = ap (first_passes is_ascii_digit) is ∙ quoted_no_digit kind x
+quoted_digit kind t x is = rw is (grind arith)
 
 pub raw_digit : (kind : StringKind) (t x : List ℕ) → t ≡ raw_front kind ++ x → first_passes is_ascii_digit t ≡ false
-raw_digit kind t x is = ap (first_passes is_ascii_digit) is ∙ raw_no_digit kind x
+raw_digit kind t x is = rw is (grind arith)
 
 -- the text after an ASCII front
 pub after_front : (word bs body : List ℕ) (n : ℕ) → list_all (λ c. ltb c 128) word ≡ true → IsUtf8 bs → begins_with word bs ≡ true → n ≡ length word → body ≡ drop n bs → chars bs ≡ word ++ chars body

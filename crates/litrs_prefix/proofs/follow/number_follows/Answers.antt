@@ -2,7 +2,7 @@
 use Rattle.litrs_prefix.proofs.Words.{sym, ◌∙◌, chars, true≢false}
 use Rattle.litrs_grammar.proofs.Laws.Number.{integer_begins}
 use Rattle.litrs_prefix.proofs.Judged.{number_before}
-use Rattle.litrs_prefix.proofs.NumberExtents.{integer_alone}
+use Rattle.litrs_prefix.proofs.NumberEnds.{integer_alone}
 use Rattle.litrs_prefix.proofs.follow.number_follows.Goals as goal
 
 pub returns-then-begins_float : goal.returns-then-begins_float

@@ -2,8 +2,7 @@
 use Rattle.litrs_prefix.proofs.Words.{◌≡◌, Some, None, false, sym, ap, ◌∙◌, chars, first_passes, is_period, is_e, starts_identifier, after_digits, gives_period, not_longer, prefix_len, is_word}
 use Rattle.litrs_prefix.proofs.Extents.{literal_len, within}
 use Rattle.litrs_prefix.proofs.Judged.{integer_before, judged_prefix}
-use Rattle.litrs_prefix.proofs.NumberEnds.{only_without_integer}
-use Rattle.litrs_prefix.proofs.NumberExtents.{e_first, no_mark, only_at_e, word_malformed}
+use Rattle.litrs_prefix.proofs.NumberEnds.{e_first, no_mark, only_at_e, only_without_integer, word_malformed}
 use Rattle.litrs_prefix.proofs.PlainLiterals.{before_of, integer_at, no_start, no_period}
 use Rattle.litrs_prefix.proofs.Runs.{name_cut}
 use Rattle.litrs_prefix.proofs.plain.number_extent.Goals as goal

@@ -2,9 +2,8 @@
 use Rattle.litrs_prefix.proofs.Words.{◌≡◌, ℕ, [], ◌∷◌, drop, refl, sym, ap, ◌∙◌, chars, quoted_front, after_first, after_bytes, end_of_end}
 use Rattle.litrs_prefix.proofs.Extents.{literal_len, whole_malformed, after_front, quoted_low}
 use Rattle.litrs_prefix.proofs.NumberEnds.{only_unless_digit}
-use Rattle.litrs_prefix.proofs.PlainLiterals.{before_of, quoted_ends}
+use Rattle.litrs_prefix.proofs.PlainLiterals.{before_of, quoted_ends, quoted_unclosed}
 use Rattle.litrs_prefix.proofs.Runs.{front_cut}
-use Rattle.litrs_prefix.proofs.Unclosed.{quoted_unclosed}
 use Rattle.litrs_prefix.proofs.plain.quoted_extent.Goals as goal
 
 pub range_from-body-requires : goal.range_from-body-requires

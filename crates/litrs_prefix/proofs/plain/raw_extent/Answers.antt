@@ -4,7 +4,7 @@ use Rattle.litrs_prefix.proofs.Extents.{literal_len, whole_malformed, after_fron
 use Rattle.litrs_prefix.proofs.NumberEnds.{only_unless_digit}
 use Rattle.litrs_prefix.proofs.PlainLiterals.{before_of}
 use Rattle.litrs_prefix.proofs.Runs.{front_cut}
-use Rattle.litrs_prefix.proofs.Unclosed.{body_starts, stop_in, closing_in, nothing_left, raw_ends, raw_unclosed}
+use Rattle.litrs_prefix.proofs.PlainLiterals.{body_starts, stop_in, closing_in, nothing_left, raw_ends, raw_unclosed}
 use Rattle.litrs_prefix.proofs.plain.raw_extent.Goals as goal
 
 pub range_from-body-requires : goal.range_from-body-requires

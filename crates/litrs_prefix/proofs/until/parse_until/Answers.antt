@@ -3,7 +3,8 @@ use Rattle.litrs_prefix.proofs.Words.{◌≡◌, List, ℕ, ◌≤◌, ◌++◌,
 use Rattle.litrs_grammar.specs.Refused.{IsRefusedOrOutOfMemory}
 use Rattle.litrs.proofs.MovedRefusals.{error_moves}
 use Rattle.litrs_lex.proofs.CharCuts.{byte_len-all}
-use Rattle.litrs_prefix.proofs.Delimiters.{delimiter_end, starts_with_delimiter, before_front, bytes_end, refused_marks, cut_before, taken, front_fits}
+use Rattle.litrs_prefix.proofs.Delimiters.{delimiter_end, starts_with_delimiter, before_front, refused_marks, cut_before, taken, front_fits}
+use Rattle.litrs_prefix.proofs.Ends.{bytes_spell}
 use Rattle.litrs_prefix.proofs.until.parse_until.Goals as goal
 
 pub overflow_sub-text : goal.overflow_sub-text
@@ -39,7 +40,7 @@ returns-in-Ok-clause-end c =
     let rest = c.from_delimiter-rest.result.now in
     let end = delimiter_end (chars c.args.delimiters.now) (chars text) in
     end_of_end source text rest (after_bytes source text c.args.start c.range_from-text.ensures.value)
-    (bytes_end text rest end.0 c.range_from-text.utf8 c.from_delimiter-rest.utf8 (ap (λ (l : List ℕ). end.0 ++ l) c.from_delimiter-rest.ensures ∙ end.1))
+    (_, bytes_spell text rest end.0 c.range_from-text.utf8 c.from_delimiter-rest.utf8 (ap (λ (l : List ℕ). end.0 ++ l) c.from_delimiter-rest.ensures ∙ end.1))
 
 pub offset_span-requires : goal.offset_span-requires
 offset_span-requires c =
