@@ -1,9 +1,9 @@
 -- If a literal is at the front of a text, one begins there, and its rest is what follows what opens
 -- there.
-use Rattle.std.proofs.Common.{◌≡◌, ℕ, zero, suc, Bool, true, false, List, ◌∷◌, ◌++◌, refl, sym, ap, ◌∙◌, arith, ◌⊎◌, inl, inr, ◌+◌, ◌<◌, not, ◌&&◌, [], drop, subst, append_assoc}
+use Rattle.std.proofs.Common.{◌≡◌, ℕ, zero, suc, Bool, true, false, List, ◌∷◌, ◌++◌, refl, sym, ap, ◌∙◌, arith, ◌⊎◌, inl, inr, ◌+◌, ◌<◌, [], drop, subst, append_assoc}
 use Rattle.std.specs.Prelude.{◌==◌}
 use Rattle.std.specs.Char.{is_ascii_digit, is_ascii_hexdigit}
-use Rattle.std.proofs.lemmas.Bool.{and_parts, and_from, not-true}
+use Rattle.std.proofs.lemmas.Bool.{and_parts, not-true}
 use Rattle.litrs_base.specs.Text.{first_passes}
 use Rattle.litrs_base.specs.declared.quotes.StringKind.{StringKind}
 use Rattle.litrs_base.specs.declared.quotes.StringKind.TheVariants.{String as string_kind, ByteString as byte_string_kind, CString as c_string_kind}
@@ -42,7 +42,7 @@ use Rattle.litrs_grammar.proofs.FloatCuts.{cut_of_text}
 use Rattle.litrs_grammar.proofs.RawCuts.{hash_len-append, length_before-body}
 use Rattle.litrs_grammar.proofs.SuffixStart.{suffix_continues}
 use Rattle.litrs_prefix.specs.Ends.{past_quote, past_single_quote, after_digits, after_fraction, after_exponent}
-use Rattle.litrs_prefix.specs.Meant.{after_quoted, after_char, after_closing, after_raw, after_number, after_body, after_opened}
+use Rattle.litrs_prefix.specs.Meant.{after_single_quote, after_quoted, after_char, after_closing, after_raw, after_number, after_body, after_opened}
 use Rattle.litrs_prefix.proofs.Meant.{past_quote_is, past_single_quote_is, digits_passed, number_parts}
 use Rattle.litrs_prefix.proofs.Numbers.{longer_integer, longer_float, with_rest, float_cut_stays}
 use Rattle.litrs_grammar.proofs.Laws.Raw as raw
@@ -90,38 +90,16 @@ literal_opens s r (a_c_string d) h f = string_opens c_string_kind s r d h
 pub opened : PrefixesOpen
 opened t d rest h = ap opens (sym h.spells) ∙ literal_opens h.front rest d h.literal h.follows
 
--- escapes: after the backslash and one character there is no quote, no backslash and no line feed
+-- escapes
 
-abbrev is_inner : ℕ → Bool
-is_inner c = not (c == 34) && not (c == 39) && not (c == 92) && not (c == 10)
+hex_digits : (w : Switches) (a b : ℕ) → is_escape w (hex_escape a b) ≡ true → (is_ascii_hexdigit a ≡ true) × (is_ascii_hexdigit b ≡ true)
+hex_digits w a b h = and_parts (is_ascii_hexdigit a) (is_ascii_hexdigit b) (and_parts _ _ (and_parts _ _ h).0).0
 
-record Tail (e : Escape) : Type 0 where
-  second : ℕ
-  tail : List ℕ
-  spells : escape_text e ≡ 92 ∷ second ∷ tail
-  same_line : (second == 10) ≡ false
-  inner : list_all is_inner tail ≡ true
+unicode_digits : (w : Switches) (u : List ℕ) → is_escape w (unicode_escape u) ≡ true → list_all is_hex_or_underscore u ≡ true
+unicode_digits w u h = grind arith
 
-hex_inner : (c : ℕ) → is_ascii_hexdigit c ≡ true → is_inner c ≡ true
-hex_inner c h = grind (arith, nat_tests)
-
-digit_inner : (c : ℕ) → is_hex_or_underscore c ≡ true → is_inner c ≡ true
-digit_inner c h = grind (arith, nat_tests)
-
-tail_of : (w : Switches) (e : Escape) → is_escape w e ≡ true → Tail e
-tail_of w (simple_escape c) h = record { second = c; tail = []; spells = refl; same_line = escape_second w (simple_escape c) [] c [] h refl; inner = refl }
-tail_of w (hex_escape a b) h =
-    let digits = and_parts (is_ascii_hexdigit a) (is_ascii_hexdigit b) (and_parts _ _ (and_parts _ _ h).0).0 in
-    record { second = 120; tail = a ∷ b ∷ []; spells = refl; same_line = refl; inner = and_from _ _ (hex_inner a digits.0) (and_from _ _ (hex_inner b digits.1) refl) }
-tail_of w (unicode_escape t) h =
-    let digits : list_all is_hex_or_underscore t ≡ true = (and_parts _ _ (and_parts _ _ (and_parts _ _ (and_parts _ _ h).0).0).0).1 in
-    record {
-      second = 117;
-      tail = 123 ∷ (t ++ 125 ∷ []);
-      spells = refl;
-      same_line = refl;
-      inner = list_all-append is_inner t (125 ∷ []) (list_all-weaken is_hex_or_underscore is_inner digit_inner t digits) refl;
-    }
+hex_passed : (c : ℕ) (t : List ℕ) → is_ascii_hexdigit c ≡ true → (past_quote 34 false (c ∷ t) ≡ past_quote 34 false t) × (past_single_quote false (c ∷ t) ≡ past_single_quote false t)
+hex_passed c t h = grind (arith, nat_tests)
 
 -- quoted strings
 
@@ -130,8 +108,8 @@ run_passed : (p : ℕ → Bool) → ((c : ℕ) → p c ≡ true → ((c == 34) �
 run_passed p only [] t h = refl
 run_passed p only (c ∷ a) t h = grind (arith, only c, run_passed p only a t)
 
-inner_none : (c : ℕ) → is_inner c ≡ true → ((c == 34) ≡ false) × ((c == 92) ≡ false)
-inner_none c h = let p = and_parts _ _ (and_parts _ _ h).0 in (not-true _ (and_parts _ _ p.0).0, not-true _ p.1)
+digit_none : (c : ℕ) → is_hex_or_underscore c ≡ true → ((c == 34) ≡ false) × ((c == 92) ≡ false)
+digit_none c h = (grind (arith, nat_tests), grind (arith, nat_tests))
 
 blank_none : (c : ℕ) → is_blank c ≡ true → ((c == 34) ≡ false) × ((c == 92) ≡ false)
 blank_none c h = (grind (arith, nat_tests), grind (arith, nat_tests))
@@ -140,9 +118,10 @@ second_passed : (c : ℕ) (t : List ℕ) → past_quote 34 true (c ∷ t) ≡ pa
 second_passed c t = grind arith
 
 escape_passed : (w : Switches) (e : Escape) (t : List ℕ) → is_escape w e ≡ true → past_quote 34 false (escape_text e ++ t) ≡ past_quote 34 false t
-escape_passed w e t h =
-    let is = tail_of w e h in
-    ap (λ (l : List ℕ). past_quote 34 false (l ++ t)) is.spells ∙ (second_passed is.second (is.tail ++ t) ∙ run_passed is_inner inner_none is.tail t is.inner)
+escape_passed w (simple_escape c) t h = second_passed c t
+escape_passed w (hex_escape a b) t h = (let digits = hex_digits w a b h in (hex_passed a (b ∷ t) digits.0).0 ∙ (hex_passed b t digits.1).0)
+escape_passed w (unicode_escape u) t h =
+    ap (past_quote 34 false) (append_assoc u (125 ∷ []) t) ∙ run_passed is_hex_or_underscore digit_none u (125 ∷ t) (unicode_digits w u h)
 
 pub item_passed : (w : Switches) (a : Item) (t : List ℕ) → is_item w a ≡ true → past_quote 34 false (item_text a ++ t) ≡ past_quote 34 false t
 item_passed w (plain_item c) t h = grind (arith, nat_tests)
@@ -166,19 +145,25 @@ quoted_rest kind s r q h e =
 
 -- chars and bytes
 
-line_passed : (a t : List ℕ) → list_all is_inner a ≡ true → past_single_quote false (a ++ t) ≡ past_single_quote false t
+line_passed : (a t : List ℕ) → list_all is_hex_or_underscore a ≡ true → past_single_quote false (a ++ t) ≡ past_single_quote false t
 line_passed [] t h = refl
-line_passed (c ∷ a) t h = grind (arith, line_passed a t)
+line_passed (c ∷ a) t h = grind (arith, nat_tests, line_passed a t)
 
 line_second : (c : ℕ) (t : List ℕ) → (c == 10) ≡ false → past_single_quote true (c ∷ t) ≡ past_single_quote false t
 line_second c t h = grind arith
 
+escape_closed : (w : Switches) (e : Escape) (x : List ℕ) → is_escape w e ≡ true → past_single_quote false (escape_text e ++ 39 ∷ x) ≡ x
+escape_closed w (simple_escape c) x h = line_second c (39 ∷ x) (escape_second w (simple_escape c) [] c [] h refl)
+escape_closed w (hex_escape a b) x h = (let digits = hex_digits w a b h in (hex_passed a (b ∷ 39 ∷ x) digits.0).1 ∙ (hex_passed b (39 ∷ x) digits.1).1)
+escape_closed w (unicode_escape u) x h = ap (past_single_quote false) (append_assoc u (125 ∷ []) (39 ∷ x)) ∙ line_passed u (125 ∷ 39 ∷ x) (unicode_digits w u h)
+
+after_escape : (e : Escape) (y : List ℕ) → after_char (escape_text e ++ y) ≡ after_single_quote (escape_text e ++ y)
+after_escape (simple_escape c) y = refl
+after_escape e y = refl
+
 item_closed : (kind : CharKind) (a : CharItem) (x : List ℕ) → is_char_item kind a ≡ true → after_char (char_item_text a ++ 39 ∷ x) ≡ x
 item_closed kind (plain_char c) x h = grind (arith, nat_tests)
-item_closed kind (escaped_char e) x h =
-    let is = tail_of _ e h in
-    ap (λ (l : List ℕ). after_char (l ++ 39 ∷ x)) is.spells
-    ∙ (sym (past_single_quote_is (92 ∷ is.second ∷ (is.tail ++ 39 ∷ x))) ∙ (line_second is.second (is.tail ++ 39 ∷ x) is.same_line ∙ line_passed is.tail (39 ∷ x) is.inner))
+item_closed kind (escaped_char e) x h = after_escape e (39 ∷ x) ∙ (sym (past_single_quote_is (escape_text e ++ 39 ∷ x)) ∙ escape_closed _ e x h)
 
 char_rest : (kind : CharKind) (s r : List ℕ) (d : CharParts) → IsCharLiteral kind s d → ends_suffix d.suffix r ≡ true → after_opened (s ++ r) ≡ r
 char_rest kind s r d h e =
