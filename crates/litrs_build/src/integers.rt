@@ -24,8 +24,8 @@ use std::alloc::{AllocError, Global};
 /// The greatest number of digits of a 128 bit number, in base two.
 const MAX_DIGITS: usize = 128;
 
-/// The greatest power of ten below 2^64.
-const CHUNK: u128 = 10_000_000_000_000_000_000;
+/// 10^19, the greatest power of ten below 2^64.
+const CHUNK: u128 = 0x8AC7_2304_89E8_0000;
 
 /// The number of decimal digits of a number below [`CHUNK`], with leading zeros.
 const CHUNK_DIGITS: usize = 19;

@@ -4,7 +4,7 @@ use Rattle.std.proofs.Common.{◌≡◌, ℕ, suc, ◌+◌, ◌<◌, ◌≤◌, 
 use Rattle.std.specs.Prelude.{encode_utf8, encode_utf8_all}
 use Rattle.std.specs.List.{prefix_len, list_all, take_while}
 use Rattle.std.specs.Str.{chars, IsUtf8, IsCharBoundary}
-use Rattle.std.proofs.lemmas.Bool.{cases_lt, and_parts, both_ways}
+use Rattle.std.proofs.lemmas.Bool.{cases_Bool, cases_lt, and_parts, both_ways}
 use Rattle.std.proofs.lemmas.List.{append-nil, take-append-drop, drop-drop, length-drop}
 use Rattle.std.proofs.lemmas.List.Sums.{take_while-cons}
 use Rattle.litrs_lex.proofs.CharCuts.{cut_at}
@@ -200,10 +200,13 @@ special_run u e n text bytes from end is place =
     ap (λ (l : List ℕ). prefix_len (is_plain (switches u e n)) (drop from l)) is in
     omega arith
 
--- a backslash is not a plain character, so a run is empty there
-slash_first : (w : Switches) (rest : List ℕ) → first_passes (λ c. c == 92) rest ≡ true → prefix_len (is_plain w) rest ≡ 0
-slash_first w [] h = refl
-slash_first w (b ∷ rest) h = ap (λ c. prefix_len (is_plain w) (c ∷ rest)) (eqb-true b 92 h)
+-- neither a backslash nor `"` is a plain character, so a run is empty there
+stop_first : (w : Switches) (rest : List ℕ) → first_passes (λ c. (c == 92) || (c == 34)) rest ≡ true → prefix_len (is_plain w) rest ≡ 0
+stop_first w [] h = refl
+stop_first w (b ∷ rest) h = elim (cases_Bool (b == 92)) [
+  | inl slash ↦ ap (λ c. prefix_len (is_plain w) (c ∷ rest)) (eqb-true b 92 slash)
+  | inr other ↦ ap (λ c. prefix_len (is_plain w) (c ∷ rest)) (eqb-true b 34 (sym (ap (λ v. v || (b == 34)) other) ∙ h))
+]
 
-pub empty_run : (w : Switches) (bytes : List ℕ) (from : ℕ) → IsUtf8 bytes → IsCharBoundary bytes from → first_passes (λ c. c == 92) (drop from bytes) ≡ true → IsPlainRun w bytes from from
-empty_run w bytes from u start slash = let none = slash_first w (drop from bytes) slash in plain_run w bytes from from u start (omega arith)
+pub empty_run : (w : Switches) (bytes : List ℕ) (from : ℕ) → IsUtf8 bytes → IsCharBoundary bytes from → first_passes (λ c. (c == 92) || (c == 34)) (drop from bytes) ≡ true → IsPlainRun w bytes from from
+empty_run w bytes from u start stop = let none = stop_first w (drop from bytes) stop in plain_run w bytes from from u start (omega arith)

@@ -7,6 +7,7 @@ use Rattle.std.specs.Str.{chars, IsUtf8}
 use Rattle.std.proofs.lemmas.Bool.{and_parts, and_from, not-true, eqb-true, or_left, true≢false, lt-ltb, le-ltb, leb-true, le-leb, or_right, false_from_ne_true}
 use Rattle.std.proofs.lemmas.Bool.Decides.{nat_tests}
 use Rattle.std.proofs.lemmas.List.{append-nil}
+use Rattle.std.proofs.lemmas.List.Folds.{list_any-append}
 use Rattle.std.proofs.lemmas.List.Sums.{take_while-cons, sum_by-cons, sum_by-append}
 use Rattle.litrs_base.specs.declared.err.ParseErrorKind.TheVariants.{DisallowedNulEscape, UnicodeEscapeWithoutBrace, UnterminatedUnicodeEscape, InvalidStartOfUnicodeEscape, NonHexDigitInUnicodeEscape, TooManyDigitInUnicodeEscape, InvalidUnicodeEscapeChar}
 use Rattle.litrs_base.specs.declared.escape.Unescape.TheVariants.{Unicode}
@@ -219,6 +220,20 @@ digit_text bs digits b d =
       passes = d.passes;
       utf8 = front.utf8;
     }
+
+no_brace : (xs : List ℕ) → list_all is_hex_or_underscore xs ≡ true → list_any (λ c. c == 125) xs ≡ false
+no_brace [] all = refl
+no_brace (x ∷ xs) all =
+    let parts = and_parts (is_hex_or_underscore x) _ all in
+    ap (λ v. v || list_any (λ c. c == 125) xs) (not-true _ (not_brace x parts.0)) ∙ no_brace xs parts.1
+
+-- a `}` of the text is after the digits
+pub any_after : (r : List ℕ) (digits : HexDigits) → IsHexDigits r digits → list_any (λ c. c == 125) r ≡ list_any (λ c. c == 125) (drop digits.len r)
+any_after r digits d =
+    let xs = take digits.len r in
+    let ys = drop digits.len r in
+    ap (list_any (λ c. c == 125)) (sym (take-append-drop digits.len r))
+    ∙ (list_any-append (λ c. c == 125) xs ys ∙ ap (λ v. v || list_any (λ c. c == 125) ys) (no_brace xs d.passes))
 
 -- a `}` after the digits is wrong where they do not begin with a digit
 closed_wrong : (xs ys : List ℕ) → list_all is_hex_or_underscore xs ≡ true → first_passes (λ c. c == 125) ys ≡ true → first_passes is_ascii_hexdigit (xs ++ ys) ≡ false →

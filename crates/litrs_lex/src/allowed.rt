@@ -2,6 +2,7 @@
 ghost use Rattle.std.specs.Prelude.{◌≡◌};
 ghost use Rattle.litrs_base.specs.declared.quotes.Switches.{Switches};
 ghost use Rattle.litrs_base.specs.Quotes.{string_switches, byte_string_switches, c_string_switches};
+ghost use Rattle.litrs_lex.specs.Unescaped.{switches};
 
 use crate::{StringKind, Switches};
 
@@ -22,6 +23,18 @@ impl Allows for Switches {
     #[inline(always)]
     fn switches(self) -> Switches {
         self
+    }
+}
+
+/// Creates switches of these values.
+#[inline(always)]
+pub(crate) fn switches(unicode: bool, byte_escapes: bool, allow_nul: bool) -> Switches
+    ensures { result ≡ switches unicode byte_escapes allow_nul }
+{
+    Switches {
+        unicode,
+        byte_escapes,
+        allow_nul,
     }
 }
 

@@ -1,6 +1,5 @@
 //! The end of the items of a quoted body, and what ends them.
-ghost use Rattle.std.specs.Prelude.{◌==◌, ⊤, drop, IsTrue};
-ghost use Rattle.std.specs.Str.{chars, IsCharBoundary};
+ghost use Rattle.std.specs.Prelude.{◌==◌, ⊤, drop, IsTrue, chars, IsCharBoundary};
 ghost use Rattle.litrs_base.specs.Characters.{backslash};
 ghost use Rattle.litrs_base.specs.Text.{first_passes};
 ghost use Rattle.litrs_lex.specs.BodyStop.{StopsBy};
@@ -9,7 +8,6 @@ ghost use Rattle.litrs_lex.specs.Reading.{IsItemsEnd};
 
 use crate::allowed::Allows;
 use crate::escape_end::refused_escape_goes_on;
-use crate::parse::begins_with_byte;
 use crate::quoted::beginning;
 use crate::reading::{Reached, read_items};
 use crate::sink::Counted;
@@ -65,12 +63,10 @@ fn rest_stop(rest: &str, allowed: Switches) -> BodyStop
     requires { EndsItems allowed (chars rest.now) }
     ensures { StopsBy allowed (chars rest.now) result }
 {
-    let [first, ..] = rest.as_bytes() else {
-        return BodyStop::Ended(Within::Items);
-    };
-    match *first {
-        b'"' => BodyStop::Quote,
-        b'\\' => slash_stop(rest, allowed),
+    match rest.as_bytes() {
+        [] => BodyStop::Ended(Within::Items),
+        [b'"', ..] => BodyStop::Quote,
+        [b'\\', ..] => slash_stop(rest, allowed),
         _ => BodyStop::Refused,
     }
 }
@@ -85,21 +81,16 @@ fn slash_stop(rest: &str, allowed: Switches) -> BodyStop
     ensures { StopsBy allowed (chars rest.now) result }
 {
     let after = &rest.as_bytes()[1..];
-    if after.is_empty() {
-        return BodyStop::Ended(Within::Backslash);
-    }
-    // A continuation that ends the items extends to the end of the text.
-    if begins_with_byte(after, b'\n') {
-        return BodyStop::Ended(Within::Continuation);
-    }
-    match unescape_with(rest, allowed) {
-        Ok(_) => BodyStop::Ended(Within::Escape),
-        Err(_) => {
-            if refused_escape_goes_on(after, allowed) {
+    match after {
+        [] => BodyStop::Ended(Within::Backslash),
+        // A continuation that ends the items extends to the end of the text.
+        [b'\n', ..] => BodyStop::Ended(Within::Continuation),
+        _ => match unescape_with(rest, allowed) {
+            Ok(_) => BodyStop::Ended(Within::Escape),
+            Err(_) if refused_escape_goes_on(after, allowed) => {
                 BodyStop::Ended(Within::PartOfEscape)
-            } else {
-                BodyStop::Refused
             }
-        }
+            Err(_) => BodyStop::Refused,
+        },
     }
 }

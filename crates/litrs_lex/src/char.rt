@@ -1,12 +1,11 @@
 //! Chars and bytes.
-ghost use Rattle.std.specs.Prelude.{◌≡◌, ◌≢◌, ◌+◌, ◌∷◌, [], codes, drop, IsTrue, IfOk, IfErr, None, Some};
-ghost use Rattle.std.specs.Str.{chars, IsCharBoundary};
+ghost use Rattle.std.specs.Prelude.{◌≡◌, ◌≢◌, ◌+◌, ◌∷◌, [], codes, drop, IsTrue, IfOk, IfErr, None, Some, if◌then◌else◌, chars, IsCharBoundary};
 ghost use Rattle.litrs_base.specs.Characters.{single_quote, backslash};
 ghost use Rattle.litrs_base.specs.Derivations.{IsOnlyDerivation};
 ghost use Rattle.litrs_base.specs.Refusal.{refusal_of, HasCharSpan};
 ghost use Rattle.litrs_base.specs.Text.{begins_with};
 ghost use Rattle.litrs_base.specs.declared.quotes.CharKind.TheVariants.{Char as char_kind, Byte as byte_kind};
-ghost use Rattle.litrs_grammar.specs.CharByte.{char_value, IsCharLiteral, is_special_whitespace, unterminated_kind, empty_kind, overlong_kind, closing_refusal};
+ghost use Rattle.litrs_grammar.specs.CharByte.{char_value, IsCharLiteral, is_special_whitespace, unterminated_kind, overlong_kind, closing_refusal};
 ghost use Rattle.litrs_grammar.specs.Literal.{kind_parse, char_literal, byte_literal};
 ghost use Rattle.litrs_grammar.specs.Refused.{IsRefused};
 ghost use Rattle.litrs_lex.specs.CharCut.{char_parts_at, IsItemRead, IsItemRefused, IsCutAfter};
@@ -97,7 +96,7 @@ fn read_item(rest: &str, kind: CharKind) -> Result<(Unescape, usize), ParseError
     ensures refused { IfErr result (IsItemRefused kind (chars rest.now)) }
 {
     let Some(first) = rest.as_bytes().first() else {
-        return Err(ParseError::new(None, unterminated_kind(kind)));
+        return Err(ParseError::new(None, unclosed_kind(kind, false)));
     };
     match *first {
         b'\'' => Err(quote_refusal(rest, kind)),
@@ -112,9 +111,11 @@ fn quote_refusal(rest: &str, kind: CharKind) -> ParseError
     ensures { IsItemRefused kind (chars rest.now) result }
 {
     if begins_with_byte(&rest.as_bytes()[1..], b'\'') {
-        ParseError::in_text(rest, Some(0..1), ParseErrorKind::UnescapedSingleQuote)
-    } else {
-        ParseError::new(None, empty_kind(kind))
+        return ParseError::in_text(rest, Some(0..1), ParseErrorKind::UnescapedSingleQuote);
+    }
+    match kind {
+        CharKind::Char => ParseError::new(None, ParseErrorKind::EmptyCharLiteral),
+        CharKind::Byte => ParseError::new(None, ParseErrorKind::EmptyByteLiteral),
     }
 }
 
@@ -158,11 +159,7 @@ fn check_closing(rest: &str, len: usize, kind: CharKind) -> Result<usize, ParseE
 {
     let after = &rest[len..];
     if !begins_with_byte(after.as_bytes(), b'\'') {
-        let refusal = if has_byte(after.as_bytes(), b'\'') {
-            overlong_kind(kind)
-        } else {
-            unterminated_kind(kind)
-        };
+        let refusal = unclosed_kind(kind, has_byte(after.as_bytes(), b'\''));
         return Err(ParseError::new(None, refusal));
     }
     match check_suffix(&after[1..]) {
@@ -178,32 +175,15 @@ fn is_special_whitespace(byte: u8) -> bool
     matches!(byte, b'\n' | b'\t' | b'\r')
 }
 
-/// Returns the error kind of a literal that is not closed.
-fn unterminated_kind(kind: CharKind) -> ParseErrorKind
-    ensures { result ≡ unterminated_kind kind }
+/// Returns the error kind of a literal that is not closed. `has_quote` is set if a quote follows,
+/// but not directly.
+fn unclosed_kind(kind: CharKind, has_quote: bool) -> ParseErrorKind
+    ensures { result ≡ if has_quote then (overlong_kind kind) else (unterminated_kind kind) }
 {
     match kind {
+        CharKind::Char if has_quote => ParseErrorKind::OverlongCharLiteral,
         CharKind::Char => ParseErrorKind::UnterminatedCharLiteral,
+        CharKind::Byte if has_quote => ParseErrorKind::OverlongByteLiteral,
         CharKind::Byte => ParseErrorKind::UnterminatedByteLiteral,
-    }
-}
-
-/// Returns the error kind of an empty literal.
-fn empty_kind(kind: CharKind) -> ParseErrorKind
-    ensures { result ≡ empty_kind kind }
-{
-    match kind {
-        CharKind::Char => ParseErrorKind::EmptyCharLiteral,
-        CharKind::Byte => ParseErrorKind::EmptyByteLiteral,
-    }
-}
-
-/// Returns the error kind of a literal with more than one character.
-fn overlong_kind(kind: CharKind) -> ParseErrorKind
-    ensures { result ≡ overlong_kind kind }
-{
-    match kind {
-        CharKind::Char => ParseErrorKind::OverlongCharLiteral,
-        CharKind::Byte => ParseErrorKind::OverlongByteLiteral,
     }
 }

@@ -1,6 +1,5 @@
 //! Containers of values.
-ghost use Rattle.std.specs.Prelude.{◌≡◌, ◌+◌, ◌≤◌, ℕ, Bool, true, false, List, [], ◌++◌, length, string_bytes, string_capacity, vec_capacity, IsTrue, IsFalse, IsOk, IfOk, OnOk, OnErr};
-ghost use Rattle.std.specs.Str.{IsUtf8};
+ghost use Rattle.std.specs.Prelude.{◌≡◌, ◌+◌, ◌≤◌, ℕ, Bool, true, false, List, [], ◌++◌, length, string_bytes, string_capacity, vec_capacity, IsTrue, IsFalse, IsOk, IfOk, OnOk, OnErr, IsUtf8};
 ghost use Rattle.litrs_grammar.specs.Escape.{value_bytes};
 ghost use Rattle.litrs_lex.specs.Container.{is_pushable};
 

@@ -1,13 +1,12 @@
 //! Escapes.
-ghost use Rattle.std.specs.Prelude.{◌≡◌, ◌≢◌, [], ◌∷◌, ◌+◌, ◌<◌, ◌≤◌, Bool, true, ◌&&◌, ◌||◌, ◌==◌, codes, drop, length, IfOk, IfErr, IsTrue, IsFalse};
+ghost use Rattle.std.specs.Prelude.{◌≡◌, ◌≢◌, [], ◌∷◌, ◌+◌, Bool, true, ◌&&◌, ◌||◌, ◌==◌, codes, drop, IfOk, IfErr, IsTrue, IsFalse, SomeIff, chars};
 ghost use Rattle.std.specs.Char.{is_ascii_hexdigit};
-ghost use Rattle.std.specs.Option.{SomeIff};
-ghost use Rattle.std.specs.Str.{chars};
-ghost use Rattle.litrs_base.specs.Characters.{backslash, letter_x, letter_u, underscore, open_brace, close_brace, is_ascii, nul_is_allowed};
+ghost use Rattle.litrs_base.specs.Characters.{backslash, letter_x, letter_u, underscore, close_brace, nul_is_allowed};
 ghost use Rattle.litrs_base.specs.Text.{first_passes, is_empty, begins_with};
 ghost use Rattle.litrs_grammar.specs.Escape.{is_simple, simple_value, pair_value};
 ghost use Rattle.litrs_lex.specs.Unescaped.{switches, IsUnescaped, IsEscapeRefused, HasEscapeRefusal, IsHexDigits};
 
+use crate::allowed::switches;
 use crate::parse::{begins_with_byte, has_byte, hex_digit_value};
 use litrs_base::{ParseError, ParseErrorKind, Switches, Unescape};
 
@@ -52,12 +51,7 @@ pub fn unescape(
     ensures refused { IfErr result
         (IsEscapeRefused (switches unicode byte_escapes allow_nul) (chars input.now)) }
 {
-    let allowed = Switches {
-        unicode,
-        byte_escapes,
-        allow_nul,
-    };
-    unescape_with(input, allowed)
+    unescape_with(input, switches(unicode, byte_escapes, allow_nul))
 }
 
 /// Like [`unescape`], with the switches in one value.
@@ -140,21 +134,13 @@ fn unescape_hex(input: &str, allowed: Switches) -> Parsed
     let Some(value) = pair_value(bytes[2], bytes[3]) else {
         return Err(ParseError::in_text(input, Some(0..4), ParseErrorKind::InvalidXEscape));
     };
-    if !allows_byte(allowed, value) {
+    if !allowed.byte_escapes && value >= 128 {
         return Err(ParseError::in_text(input, Some(0..4), ParseErrorKind::NonAsciiXEscape));
     }
     if !allows_value(allowed, u32::from(value)) {
         return Err(ParseError::in_text(input, Some(0..4), ParseErrorKind::DisallowedNulEscape));
     }
     Ok((Unescape::Byte(value), 4))
-}
-
-/// Returns `true` if a `\x` escape may have the value `value`.
-#[inline(always)]
-fn allows_byte(allowed: Switches, value: u8) -> bool
-    ensures { result ≡ (allowed.byte_escapes || is_ascii value) }
-{
-    allowed.byte_escapes || value < 128
 }
 
 /// Returns `true` if an escape may have the value `value`.
@@ -191,21 +177,11 @@ fn unescape_unicode(input: &str, allowed: Switches) -> Parsed
     }
     let inner = &bytes[3..];
     let digits = hex_digits(inner);
-    if is_closed(inner, digits) {
+    if begins_with_hex_digit(inner) && begins_with_byte(&inner[digits.len..], b'}') {
         unescape_digits(input, digits, allowed)
     } else {
         Err(unicode_escape_refusal(input, digits))
     }
-}
-
-/// Returns `true` if `inner` starts with a hex digit and has `}` after `digits`.
-#[inline(always)]
-fn is_closed(inner: &[u8], digits: HexDigits) -> bool
-    requires { digits.len ≤ length inner.now }
-    ensures { result ≡ (first_passes is_ascii_hexdigit inner.now
-        && first_passes (λ c. c == close_brace) (drop digits.len inner.now)) }
-{
-    begins_with_hex_digit(inner) && matches!(inner.get(digits.len), Some(b'}'))
 }
 
 /// Returns `true` if `bytes` starts with a hex digit.
@@ -284,14 +260,15 @@ fn unicode_escape_refusal(input: &str, digits: HexDigits) -> ParseError
         HasEscapeRefusal (switches true byte_escapes allow_nul) (chars input.now) result }
 {
     let inner = &input.as_bytes()[3..];
+    let after = &inner[digits.len..];
     let place = 3 + digits.len;
-    if !has_byte(inner, b'}') {
+    if !has_byte(after, b'}') {
         let kind = ParseErrorKind::UnterminatedUnicodeEscape;
         ParseError::in_text(input, Some(0..input.len()), kind)
     } else if begins_wrongly(inner) {
         let kind = ParseErrorKind::InvalidStartOfUnicodeEscape;
         ParseError::in_text(input, Some(3..4), kind)
-    } else if begins_with_hex_digit(&inner[digits.len..]) {
+    } else if begins_with_hex_digit(after) {
         let kind = ParseErrorKind::TooManyDigitInUnicodeEscape;
         ParseError::in_text(input, Some(place..place + 1), kind)
     } else {

@@ -2,7 +2,7 @@
 ghost use Rattle.std.specs.Prelude.{◌≡◌, ◌&&◌, IsTrue, count_by};
 ghost use Rattle.std.specs.Char.{is_ascii_hexdigit};
 ghost use Rattle.litrs_base.specs.Characters.{is_scalar, nul_is_allowed};
-ghost use Rattle.litrs_grammar.specs.GoesOn.Escape.{escape_goes_on, hex_goes_on, braces_go_on, inner_goes_on};
+ghost use Rattle.litrs_grammar.specs.GoesOn.Escape.{escape_goes_on, inner_goes_on};
 
 use crate::escape::hex_digits;
 use crate::{Switches, hex_digit_value};
@@ -12,38 +12,15 @@ use crate::{Switches, hex_digit_value};
 pub fn refused_escape_goes_on(after: &[u8], allowed: Switches) -> bool
     ensures { result ≡ escape_goes_on allowed after.now }
 {
-    let unicode = allowed.unicode;
     match after {
-        [] => true,
-        [b'x', digits @ ..] => hex_goes_on(digits, allowed),
-        [b'u', braces @ ..] => unicode && braces_go_on(braces, allowed),
-        _ => false,
-    }
-}
-
-/// Returns `true` if `\x` and `digits` begin an escape: `digits` is empty, or one hex digit, which
-/// is at most 7 unless `\x80` to `\xff` are allowed.
-fn hex_goes_on(digits: &[u8], allowed: Switches) -> bool
-    ensures { result ≡ hex_goes_on allowed digits.now }
-{
-    match digits {
-        [] => true,
-        [high] => match hex_digit_value(*high) {
+        [] | [b'x'] => true,
+        // A digit is at most 7 unless `\x80` to `\xff` are allowed.
+        [b'x', high] => match hex_digit_value(*high) {
             Some(high) => allowed.byte_escapes || high < 8,
             None => false,
         },
-        _ => false,
-    }
-}
-
-/// Returns `true` if `\u` and `braces` begin an escape, where such escapes are allowed.
-fn braces_go_on(braces: &[u8], allowed: Switches) -> bool
-    requires { IsTrue allowed.unicode }
-    ensures { result ≡ braces_go_on allowed braces.now }
-{
-    match braces {
-        [] => true,
-        [b'{', inner @ ..] => inner_goes_on(inner, allowed),
+        [b'u'] => allowed.unicode,
+        [b'u', b'{', inner @ ..] => allowed.unicode && inner_goes_on(inner, allowed),
         _ => false,
     }
 }

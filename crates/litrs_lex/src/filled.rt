@@ -1,6 +1,5 @@
 //! A value in a container.
-ghost use Rattle.std.specs.Prelude.{◌≡◌, ◌≤◌, ◌<◌, ◌+◌, ◌++◌, [], length, IsTrue, IsFalse};
-ghost use Rattle.std.specs.Str.{IsUtf8};
+ghost use Rattle.std.specs.Prelude.{◌≡◌, ◌≤◌, ◌<◌, ◌+◌, ◌++◌, [], length, IsTrue, IsFalse, IsUtf8};
 ghost use Rattle.litrs_lex.specs.Container.{IsFilledTo};
 
 use crate::container::EscapeContainer;
@@ -35,13 +34,11 @@ impl<C: EscapeContainer> Filled<C> {
             × (C.capacity self.old.into
             < length (C.contents self.old.into) + length self.old.piece) }
     {
-        match self.into.push_bytes(self.piece.as_bytes()) {
-            Ok(()) => {
-                self.piece.clear();
-                true
-            }
-            Err(_) => false,
+        let fits = self.into.push_bytes(self.piece.as_bytes()).is_ok();
+        if fits {
+            self.piece.clear();
         }
+        fits
     }
 
     /// Returns the container, with all bytes in it.

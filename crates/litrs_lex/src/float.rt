@@ -1,11 +1,10 @@
 //! Floats.
-ghost use Rattle.std.specs.Prelude.{◌≡◌, ◌≤◌, ◌&&◌, not, drop, length, IsTrue, IsFalse, IfOk, IfErr, option_map, Some};
+ghost use Rattle.std.specs.Prelude.{◌≡◌, ◌≤◌, drop, length, IsTrue, IsFalse, IfOk, IfErr, option_map, chars};
 ghost use Rattle.std.specs.Char.{is_ascii_digit};
-ghost use Rattle.std.specs.List.{prefix_len, list_any};
-ghost use Rattle.std.specs.Str.{chars};
+ghost use Rattle.std.specs.List.{prefix_len};
 ghost use Rattle.litrs_base.specs.Refusal.{refusal};
 ghost use Rattle.litrs_base.specs.Derivations.{IsOnlyDerivation};
-ghost use Rattle.litrs_base.specs.Text.{first_passes, is_empty};
+ghost use Rattle.litrs_base.specs.Text.{first_passes};
 ghost use Rattle.litrs_grammar.specs.Float.{IsFloatOf, fraction_text, fraction_of, exponent_of, sign_len, is_decimal_char, has_wrong_fraction, float_cut, float_cut_refusal};
 ghost use Rattle.litrs_grammar.specs.Literal.{kind_parse, float_literal};
 ghost use Rattle.litrs_grammar.specs.Refused.{IsRefused};
@@ -97,7 +96,8 @@ fn cut_refusal(cut: &FloatCut, input: &str) -> Option<(Option<Range<usize>>, Par
         ≡ float_cut_refusal (float_cut (chars input.now)) }
 {
     let end_number = cut.end_number;
-    if has_no_exponent_digit(&input.as_bytes()[cut.end_fraction..end_number]) {
+    let exponent = &input.as_bytes()[cut.end_fraction..end_number];
+    if !exponent.is_empty() && !exponent.iter().any(|b| b.is_ascii_digit()) {
         let span = cut.end_fraction..end_number;
         return Some((Some(span), ParseErrorKind::NoExponentDigits));
     }
@@ -151,18 +151,4 @@ fn has_wrong_fraction(bytes: &[u8]) -> bool
     ensures { result ≡ has_wrong_fraction bytes.now }
 {
     matches!(bytes, [b'.', next, ..] if !next.is_ascii_digit())
-}
-
-/// Returns `true` if `exponent` is not empty and has no decimal digit.
-fn has_no_exponent_digit(exponent: &[u8]) -> bool
-    ensures { result ≡ (not (is_empty exponent.now) && not (list_any is_ascii_digit exponent.now)) }
-{
-    !exponent.is_empty() && !has_digit(exponent)
-}
-
-/// Returns `true` if `bytes` has a decimal digit.
-fn has_digit(bytes: &[u8]) -> bool
-    ensures { result ≡ list_any is_ascii_digit bytes.now }
-{
-    bytes.iter().any(|b| b.is_ascii_digit())
 }

@@ -1,6 +1,5 @@
 //! Hashes of raw strings.
-ghost use Rattle.std.specs.Prelude.{◌≡◌, ◌≤◌, ◌&&◌, not, length, map};
-ghost use Rattle.std.specs.Simd.Lanes.{mask_l, chunk};
+ghost use Rattle.std.specs.Prelude.{◌≡◌, ◌≤◌, ◌&&◌, not, length};
 ghost use Rattle.std.specs.List.{list_all};
 ghost use Rattle.litrs_base.specs.Text.{first_passes, begins_with};
 ghost use Rattle.litrs_grammar.specs.Raw.{hashes, hash_len, is_hash, is_quote, raw_closing};
@@ -22,7 +21,10 @@ pub fn is_inner_quote(bytes: &[u8], hashes: usize) -> bool
         ≡ (first_passes is_quote bytes.now && not (begins_with (raw_closing hashes) bytes.now)) }
 {
     match bytes {
-        [b'"', after @ ..] => hash_len(after) < hashes,
+        // The last hash is looked at first, because the quotes of a body mostly lack it.
+        [b'"', after @ ..] if hashes > 0 => {
+            after.len() < hashes || after[hashes - 1] != b'#' || hash_len(after) < hashes
+        }
         _ => false,
     }
 }
@@ -55,22 +57,13 @@ fn hash_len_of_many(bytes: &[u8]) -> usize
 {
     let mut len = 0;
     while bytes.len() - len >= STEP {
-        let others = other_marks(&bytes[len..]);
+        // Bit `i` of `others` is set if byte `i` of the step is not a hash.
+        let step = u8x16::from_slice(&bytes[len..]);
+        let others = step.simd_ne(Simd::splat(b'#')).to_bitmask();
         if others != 0 {
             return len + others.trailing_zeros() as usize;
         }
         len += STEP;
     }
     len + run_end(&bytes[len..], Run::Hashes)
-}
-
-/// Returns a mask of the first 16 bytes: bit `i` is set if the byte at `i` is not a hash.
-#[inline(always)]
-fn other_marks(bytes: &[u8]) -> u64
-    requires { 16 ≤ length bytes.now }
-    ensures { result ≡ mask_l (map (λ b. not (is_hash b)) (chunk 0 16 bytes.now)) }
-{
-    u8x16::from_slice(bytes)
-        .simd_ne(Simd::splat(b'#'))
-        .to_bitmask()
 }

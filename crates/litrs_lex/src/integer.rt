@@ -1,11 +1,6 @@
 //! Integers.
-ghost use Rattle.std.specs.Prelude.{◌≡◌, ◌∷◌, [], IsTrue, IfOk, IfErr, option_map, Some};
+ghost use Rattle.std.specs.Prelude.{◌≡◌, IsTrue, IfOk, IfErr, option_map, Some, chars};
 ghost use Rattle.std.specs.Char.{is_ascii_digit};
-ghost use Rattle.std.specs.List.{prefix_len, list_any};
-ghost use Rattle.std.specs.Str.{chars};
-ghost use Rattle.litrs_base.specs.Characters.{digit_zero};
-ghost use Rattle.litrs_base.specs.Base.{is_digit_or_underscore};
-ghost use Rattle.litrs_base.specs.Numeral.{is_no_underscore};
 ghost use Rattle.litrs_base.specs.Refusal.{refusal};
 ghost use Rattle.litrs_base.specs.Derivations.{IsOnlyDerivation};
 ghost use Rattle.litrs_base.specs.Text.{first_passes};
@@ -104,7 +99,9 @@ fn cut_refusal(cut: &IntegerCut, input: &str) -> Option<(Range<usize>, ParseErro
         let span = end_main..end_main + 1;
         return Some((span, ParseErrorKind::IntegerSuffixStartingWithE));
     }
-    if is_more_than_underscores(&number.as_bytes()[cut.start_main..]) {
+    // The main part has digits and underscores.
+    let main = &number.as_bytes()[cut.start_main..];
+    if main.iter().any(|b| *b != b'_') {
         None
     } else {
         Some((cut.start_main..end_main, ParseErrorKind::NoDigits))
@@ -129,11 +126,4 @@ fn base_of(bytes: &[u8]) -> IntegerBase
         [b'0', b'x', ..] => Hexadecimal,
         _ => Decimal,
     }
-}
-
-/// Returns `true` if `bytes`, which are digits and underscores, have a digit.
-fn is_more_than_underscores(bytes: &[u8]) -> bool
-    ensures { result ≡ list_any is_no_underscore bytes.now }
-{
-    bytes.iter().any(|b| *b != b'_')
 }

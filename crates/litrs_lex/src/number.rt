@@ -1,11 +1,10 @@
 //! Numbers.
-ghost use Rattle.std.specs.Prelude.{◌≡◌, ◌&&◌, nat_le, length, IsTrue, IfOk, IfErr};
+ghost use Rattle.std.specs.Prelude.{◌≡◌, ◌&&◌, nat_le, length, IsTrue, IfOk, IfErr, chars};
 ghost use Rattle.std.specs.Char.{is_ascii_digit};
 ghost use Rattle.std.specs.List.{list_all};
-ghost use Rattle.std.specs.Str.{chars};
 ghost use Rattle.litrs_base.specs.Text.{first_passes};
 ghost use Rattle.litrs_grammar.specs.Literal.{kind_parse};
-ghost use Rattle.litrs_grammar.specs.LiteralRefusals.{is_float_mark, begins_float};
+ghost use Rattle.litrs_grammar.specs.LiteralRefusals.{begins_float};
 ghost use Rattle.litrs_grammar.specs.Refused.{IsRefused};
 ghost use Rattle.litrs_lex.specs.IntegerCut.{IsDigitsCut};
 ghost use Rattle.litrs_lex.specs.NumberCut.{number_kind, IsNumberCut};
@@ -86,14 +85,7 @@ fn begins_float(cut: &IntegerCut, bytes: &[u8]) -> bool
     ensures { result ≡ begins_float bytes.now }
 {
     match cut.base {
-        IntegerBase::Decimal => begins_with_float_mark(&bytes[cut.end_main..]),
+        IntegerBase::Decimal => matches!(&bytes[cut.end_main..], [b'.' | b'e' | b'E', ..]),
         _ => false,
     }
-}
-
-/// Returns `true` if `bytes` starts with a period, `e` or `E`.
-fn begins_with_float_mark(bytes: &[u8]) -> bool
-    ensures { result ≡ first_passes is_float_mark bytes.now }
-{
-    matches!(bytes, [b'.' | b'e' | b'E', ..])
 }

@@ -1,18 +1,15 @@
 //! Suffixes and digits.
-ghost use Rattle.std.specs.Prelude.{◌≡◌, ◌≤◌, length, [], ◌||◌, ◌==◌, is_ok, IsTrue, IfErr, MatchResult, slice_get};
+ghost use Rattle.std.specs.Prelude.{◌≡◌, ◌≤◌, length, [], ◌==◌, is_ok, IsTrue, IfErr, MatchResult, slice_get, SomeIff, chars};
 ghost use Rattle.std.specs.Char.{digit_value, is_ascii_hexdigit};
 ghost use Rattle.std.specs.List.{list_all, list_any, prefix_len};
-ghost use Rattle.std.specs.Option.{SomeIff};
-ghost use Rattle.std.specs.Str.{chars};
 ghost use Rattle.unicode_ident.specs.Ident.{is_xid_continue};
 ghost use Rattle.litrs_base.specs.Base.{is_digit_or_underscore};
 ghost use Rattle.litrs_base.specs.Refusal.{refusal_of, without_span};
 ghost use Rattle.litrs_base.specs.Text.{first_passes};
-ghost use Rattle.litrs_grammar.specs.Suffix.{starts_identifier, is_suffix, is_ascii_symbol, suffix_refusal};
+ghost use Rattle.litrs_grammar.specs.Suffix.{is_suffix, is_ascii_symbol, suffix_refusal};
 
 use crate::{Run, run_end};
 use litrs_base::{IntegerBase, ParseError, ParseErrorKind, split_first_char};
-use memchr::memchr;
 
 /// Returns the number of decimal digits and underscores at the front of `input`: 4 for `1_0_a2`.
 // Not inlined, so that there is one copy of the search.
@@ -71,7 +68,7 @@ pub(crate) fn begins_with_byte(bytes: &[u8], byte: u8) -> bool
 pub(crate) fn has_byte(bytes: &[u8], byte: u8) -> bool
     ensures { result ≡ list_any (λ c. c == byte) bytes.now }
 {
-    memchr(byte, bytes).is_some()
+    bytes.contains(&byte)
 }
 
 /// Returns `true` if each character of `rest` may continue an identifier. Reads bytes while they
@@ -94,24 +91,16 @@ fn continues_in_unicode(rest: &str) -> bool
     rest.chars().all(|c| unicode_ident::is_xid_continue(c))
 }
 
-/// Returns `true` if an identifier may start with `first`.
-fn starts_identifier(first: char) -> bool
-    ensures { result ≡ starts_identifier first }
-{
-    first == '_' || unicode_ident::is_xid_start(first)
-}
-
 /// Returns `true` if `s` is a suffix.
 fn is_suffix(s: &str) -> bool
     ensures { result ≡ is_suffix (chars s.now) }
 {
-    match split_first_char(s) {
-        None => true,
-        Some((first, rest)) => {
-            let is_lone = first == '_' && rest.is_empty();
-            starts_identifier(first) && continues_identifier(rest) && !is_lone
-        }
-    }
+    let Some((first, rest)) = split_first_char(s) else {
+        return true;
+    };
+    let is_start = first == '_' || unicode_ident::is_xid_start(first);
+    let is_lone = first == '_' && rest.is_empty();
+    is_start && continues_identifier(rest) && !is_lone
 }
 
 /// Returns `true` if `byte` is ASCII, and neither a letter nor `_`.
@@ -119,16 +108,6 @@ fn is_ascii_symbol(byte: u8) -> bool
     ensures { result ≡ is_ascii_symbol byte }
 {
     byte.is_ascii() && !(byte.is_ascii_alphabetic() || byte == b'_')
-}
-
-/// Returns the error kind of a text that is not a suffix.
-fn suffix_refusal(s: &str) -> ParseErrorKind
-    ensures { result ≡ suffix_refusal (chars s.now) }
-{
-    match s.as_bytes().first() {
-        Some(first) if is_ascii_symbol(*first) => ParseErrorKind::UnexpectedChar,
-        _ => ParseErrorKind::InvalidSuffix,
-    }
 }
 
 /// Checks that `s` is a suffix: it is empty, or an identifier other than `_` alone. For example,
@@ -160,8 +139,10 @@ fn check_some_suffix(s: &str) -> Result<(), ParseErrorKind>
     ensures err { IfErr result (λ kind. kind ≡ suffix_refusal (chars s.now)) }
 {
     if is_suffix(s) {
-        Ok(())
-    } else {
-        Err(suffix_refusal(s))
+        return Ok(());
+    }
+    match s.as_bytes().first() {
+        Some(first) if is_ascii_symbol(*first) => Err(ParseErrorKind::UnexpectedChar),
+        _ => Err(ParseErrorKind::InvalidSuffix),
     }
 }

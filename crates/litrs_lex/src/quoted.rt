@@ -1,19 +1,18 @@
 //! Quoted strings, byte strings and C strings.
-ghost use Rattle.std.specs.Prelude.{◌≡◌, ◌≢◌, ⊤, ℕ, [], None, codes, drop, IfOk, IfErr, IfSome, IfNone, IsTrue, IsFalse};
-ghost use Rattle.std.specs.Str.{chars, IsCharBoundary};
+ghost use Rattle.std.specs.Prelude.{◌≡◌, ◌≢◌, ⊤, ℕ, [], None, codes, drop, IfOk, IfErr, IfSome, IfNone, IsTrue, IsFalse, chars, IsCharBoundary};
 ghost use Rattle.litrs_grammar.specs.Quoted.{item_refusal};
 ghost use Rattle.litrs_lex.specs.QuotedCut.{IsQuotedCut, IsQuotedRefused};
 ghost use Rattle.litrs_lex.specs.QuotedItems.{IsPlainBody};
 ghost use Rattle.litrs_lex.specs.Reading.{IsReading, IsReadBody, IsBodyRefused, IsItemsEnd};
 ghost use Rattle.litrs_lex.specs.Unescaped.{switches};
 
-use crate::allowed::Allows;
+use crate::allowed::{Allows, switches};
+use crate::check_suffix;
 use crate::parse::begins_with_byte;
 use crate::reading::{Reached, Reading, read_items};
 use crate::search::Mask;
 use crate::sink::Counted;
 use crate::stop::first_plain_end;
-use crate::{Switches, check_suffix};
 use litrs_base::ParseError;
 
 /// The lengths and places of a quoted literal, in bytes.
@@ -59,11 +58,7 @@ pub fn cut_quoted(
     ensures refused { IfErr result
         (IsQuotedRefused (switches unicode byte_escapes allow_nul) input.now offset) }
 {
-    let allowed = Switches {
-        unicode,
-        byte_escapes,
-        allow_nul,
-    };
+    let allowed = switches(unicode, byte_escapes, allow_nul);
     let from = beginning(input, offset, allowed);
     let mut counted = Counted { len: 0 };
     match read_items(input, offset, from, allowed, &mut counted) {
@@ -103,8 +98,8 @@ pub fn items_end<A: Allows>(input: &str, offset: usize, allowed: A) -> usize
 }
 
 /// Returns the place of the closing quote of a quoted body that starts at `offset`, if all its
-/// characters are plain. For `"ab" + c` and 1 that is 3. Returns `None` if the body is not closed or
-/// has another character: a backslash, a CR or one that `allowed` excludes.
+/// characters are plain. For `"ab" + c` and 1 that is 3. Returns `None` if the body is not closed
+/// or has another character: a backslash, a CR or one that `allowed` excludes.
 ///
 /// `offset` is that of [`cut_quoted`].
 #[inline(always)]
@@ -115,11 +110,7 @@ pub fn plain_body_end<A: Allows>(input: &str, offset: usize, allowed: A) -> Opti
         ((place : ℕ) → IsPlainBody (A.allowed allowed) input.now offset place → ⊥) }
 {
     let place = first_plain_end(input, offset, allowed);
-    if begins_with_byte(input[place..].as_bytes(), b'"') {
-        Some(place)
-    } else {
-        None
-    }
+    begins_with_byte(input[place..].as_bytes(), b'"').then_some(place)
 }
 
 /// Returns the state at the front of a body, with its plain characters found.

@@ -1,12 +1,12 @@
 //! Raw strings of the three kinds.
-ghost use Rattle.std.specs.Prelude.{◌≡◌, ◌≤◌, Bool, length, drop, IsTrue, IsFalse, IfOk, IfErr, Some};
-ghost use Rattle.std.specs.Str.{chars, IsUtf8, IsCharBoundary};
+ghost use Rattle.std.specs.Prelude.{◌≡◌, ◌≤◌, Bool, length, drop, IsTrue, IsFalse, IfOk, IfErr, Some, chars, IsUtf8, IsCharBoundary};
 ghost use Rattle.litrs_base.specs.Finality.{is_open};
 ghost use Rattle.litrs_base.specs.Refusal.{refusal};
 ghost use Rattle.litrs_base.specs.Text.{first_passes, begins_with};
 ghost use Rattle.litrs_grammar.specs.Raw.{is_quote, raw_closing, raw_char_refusal, raw_body_refusal, raw_refusal};
 ghost use Rattle.litrs_lex.specs.RawCut.{IsRawCut, IsRawRefused, IsRawOpening, IsStop, IsBodyCut};
 
+use crate::allowed::switches;
 use crate::hashes::{MAX_HASHES, hash_len, is_inner_quote};
 use crate::search::{Mask, next_special_masked};
 use crate::{Special, Switches, check_suffix, next_special};
@@ -46,11 +46,7 @@ pub fn scan_raw_string(
     ensures ok { IfOk result (IsRawCut unicode allow_nul offset input.now) }
     ensures refused { IfErr result (IsRawRefused unicode allow_nul offset input.now) }
 {
-    let allowed = Switches {
-        unicode,
-        byte_escapes: true,
-        allow_nul,
-    };
+    let allowed = switches(unicode, true, allow_nul);
     match cut_raw(input, offset, allowed) {
         Ok(cut) => Ok(cut),
         Err((span, kind)) => Err(ParseError::in_text(input, span, kind)),

@@ -60,9 +60,7 @@ pub(crate) fn read_items<S: Sink, A: Allows>(
         (S.room sink.old) result }
 {
     let switches = allowed.switches();
-    let mut at = from.at;
-    let mut place = from.place;
-    let mut mask = from.mask;
+    let (mut at, mut place, mut mask) = (from.at, from.place, from.mask);
     loop {
         if !sink.push_run(input, at, place) {
             return Reached::Full(Reading { at, place, mask });

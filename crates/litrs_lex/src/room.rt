@@ -1,6 +1,5 @@
 //! A value on the stack.
-ghost use Rattle.std.specs.Prelude.{◌≡◌, ◌≤◌, ◌<◌, ◌+◌, ◌-◌, ◌++◌, [], List, ℕ, Bool, true, length, take, drop, IsTrue, IsFalse};
-ghost use Rattle.std.specs.Str.{IsUtf8};
+ghost use Rattle.std.specs.Prelude.{◌≡◌, ◌≤◌, ◌<◌, ◌+◌, ◌-◌, ◌++◌, [], List, ℕ, Bool, true, length, take, drop, IsTrue, IsFalse, IsUtf8};
 ghost use Rattle.litrs_grammar.specs.Escape.{value_bytes};
 ghost use Rattle.litrs_lex.specs.Container.{is_pushable};
 

@@ -1,10 +1,10 @@
 //! The search for special bytes of a body.
-ghost use Rattle.std.specs.Prelude.{◌≡◌, ◌==◌, ◌+◌, ◌-◌, ◌≤◌, ◌<◌, List, ℕ, length, drop, map, if◌then◌else◌};
+ghost use Rattle.std.specs.Prelude.{◌≡◌, ◌==◌, ◌+◌, ◌≤◌, ◌<◌, List, ℕ, length, drop, map, if◌then◌else◌};
 ghost use Rattle.std.specs.Simd.Lanes.{mask_l, chunk};
 ghost use Rattle.std.specs.List.{prefix_len};
 ghost use Rattle.std.specs.Int.{w64, trailing_zeros};
 ghost use Rattle.litrs_lex.specs.Special.{is_special, is_ordinary};
-ghost use Rattle.litrs_lex.specs.Mask.{IsMaskOf};
+ghost use Rattle.litrs_lex.specs.Mask.{IsMaskOf, IsFoundFrom};
 
 use std::simd::prelude::*;
 
@@ -95,70 +95,57 @@ pub fn next_special_masked(bytes: &[u8], from: usize, what: Special, mask: Mask)
     let mut unread = from;
     if from < mask.end {
         let found = mask.bits >> (from - mask.start);
-        // Special bytes in a row are found by a branch, which does not wait for the shift.
+        // Special bytes in a row are found by a branch, which does not wait for the shift. So are
+        // those of a raw body that have one byte between them.
         if found % 2 == 1 {
             return (from, mask);
+        }
+        if !what.backslash && found % 4 == 2 {
+            return (from + 1, mask);
         }
         if found != 0 {
             return (from + found.trailing_zeros() as usize, mask);
         }
         unread = mask.end;
     }
-    load_mask(bytes, unread, what, mask)
-}
-
-/// Like [`next_special`], by new masks: one of the whole text if it is short, otherwise one of each
-/// 32 bytes. For at most three bytes there is no mask.
-#[inline(always)]
-fn load_mask(bytes: &[u8], from: usize, what: Special, mask: Mask) -> (usize, Mask)
-    requires from { from ≤ length bytes.now }
-    requires after { mask.start ≤ from }
-    requires mask { IsMaskOf what bytes.now mask }
-    ensures place { result.0 ≡ from + prefix_len (is_ordinary what) (drop from bytes.now) }
-    ensures after { result.1.start ≤ result.0 }
-    ensures mask { IsMaskOf what bytes.now result.1 }
-{
+    // New masks: one of the whole text if it is short, otherwise one of each 32 bytes. For at most
+    // three bytes there is no mask.
     match bytes.len() {
-        0..=3 => (from + ordinary_len(&bytes[from..], what), mask),
-        4..=7 => mask_all::<4>(bytes, from, what),
-        8..=15 => mask_all::<8>(bytes, from, what),
-        16..=31 => mask_all::<16>(bytes, from, what),
-        _ => mask_by_lanes(bytes, from, what),
+        0..=3 => (unread + ordinary_len(&bytes[unread..], what), mask),
+        4..=7 => mask_all::<4>(bytes, unread, what),
+        8..=15 => mask_all::<8>(bytes, unread, what),
+        16..=31 => mask_all::<16>(bytes, unread, what),
+        _ => mask_by_lanes(bytes, unread, what),
     }
 }
 
-/// Like [`load_mask`], for `N` to `2 * N` bytes, by a load of the first `N` and one of the last
-/// `N`. The bits of bytes that both loads have are shifted out of the second.
+/// Like [`next_special`], with a mask, for `N` to `2 * N` bytes, by a load of the first `N` and one
+/// of the last `N`. The bits of bytes that both loads have are shifted out of the second.
 #[inline(always)]
-fn mask_all<const N: usize>(bytes: &[u8], from: usize, what: Special) -> (usize, Mask)
-    requires within { from ≤ length bytes.now }
+fn mask_all<const N: usize>(bytes: &[u8], start: usize, what: Special) -> (usize, Mask)
+    requires within { start ≤ length bytes.now }
     requires size { (N ≤ length bytes.now) × (length bytes.now ≤ N + N) × (N ≤ 16) }
-    ensures place { result.0 ≡ from + prefix_len (is_ordinary what) (drop from bytes.now) }
-    ensures after { result.1.start ≤ result.0 }
-    ensures mask { IsMaskOf what bytes.now result.1 }
+    ensures { IsFoundFrom start what bytes.now result.0 result.1 }
 {
     let end = bytes.len();
     let first = special_mask::<N>(bytes, 0, what);
     let last = special_mask::<N>(bytes, end - N, what);
     let after = last >> (N + N - end);
-    let bits = (first + (after << N)) >> from;
-    let start = from;
+    let bits = (first + (after << N)) >> start;
     let mask = Mask { start, end, bits };
     (lowest_bit_place(bits, start, end), mask)
 }
 
-/// Like [`load_mask`], for at least 32 bytes, by 32 bytes a step. The last load is that of the last
-/// 32 bytes, and the bits of bytes that were read before are shifted out.
+/// Like [`next_special`], with a mask, for at least 32 bytes, by 32 bytes a step. The last load is
+/// that of the last 32 bytes, and the bits of bytes that were read before are shifted out.
 #[inline(always)]
 fn mask_by_lanes(bytes: &[u8], from: usize, what: Special) -> (usize, Mask)
     requires { (from ≤ length bytes.now) × (32 ≤ length bytes.now) }
-    ensures place { result.0 ≡ from + prefix_len (is_ordinary what) (drop from bytes.now) }
-    ensures after { result.1.start ≤ result.0 }
-    ensures mask { IsMaskOf what bytes.now result.1 }
+    ensures { IsFoundFrom from what bytes.now result.0 result.1 }
 {
-    let len = bytes.len();
+    let end = bytes.len();
     let mut start = from;
-    while len - start >= LOAD {
+    while end - start >= LOAD {
         let bits = special_mask::<LOAD>(bytes, start, what);
         if bits != 0 {
             let end = start + LOAD;
@@ -167,10 +154,9 @@ fn mask_by_lanes(bytes: &[u8], from: usize, what: Special) -> (usize, Mask)
         }
         start += LOAD;
     }
-    let bits = special_mask::<LOAD>(bytes, len - LOAD, what) >> (LOAD - (len - start));
-    let end = len;
+    let bits = special_mask::<LOAD>(bytes, end - LOAD, what) >> (LOAD - (end - start));
     let mask = Mask { start, end, bits };
-    (lowest_bit_place(bits, start, len), mask)
+    (lowest_bit_place(bits, start, end), mask)
 }
 
 #[inline(always)]
@@ -207,14 +193,6 @@ fn lowest_bit_place(bits: u64, from: usize, end: usize) -> usize
     }
 }
 
-/// Returns `byte`, with which lanes are compared, or `other` if `byte` is not searched for.
-#[inline(always)]
-fn needle(is_wanted: bool, byte: u8, other: u8) -> u8
-    ensures { result ≡ if is_wanted then byte else other }
-{
-    if is_wanted { byte } else { other }
-}
-
 /// Returns the mask of the `N` bytes from `at` on: bit `i` is set if the byte at `at + i` is
 /// special.
 ///
@@ -224,9 +202,9 @@ fn special_mask<const N: usize>(bytes: &[u8], at: usize, what: Special) -> u64
     requires { (at + N ≤ length bytes.now) × (N ≤ 64) }
     ensures { result ≡ mask_l (map (is_special what) (chunk at N bytes.now)) }
 {
-    let second = needle(what.backslash, b'\\', b'\r');
-    let third = needle(what.nul, 0, b'\r');
-    let limit = needle(what.non_ascii, 127, 255);
+    let second = if what.backslash { b'\\' } else { b'\r' };
+    let third = if what.nul { 0 } else { b'\r' };
+    let limit = if what.non_ascii { 127 } else { 255 };
     let lanes = Simd::<u8, N>::from_slice(&bytes[at..]);
     (lanes.simd_eq(Simd::splat(b'"'))
         | lanes.simd_eq(Simd::splat(b'\r'))

@@ -1,6 +1,5 @@
 //! Sinks for the items of a quoted body.
-ghost use Rattle.std.specs.Prelude.{◌≡◌, ◌≤◌, ◌<◌, ◌^◌, ◌+◌, ◌-◌, ◌++◌, ℕ, List, Bool, true, length, take, drop, IfSome, IsTrue, IsFalse};
-ghost use Rattle.std.specs.Str.{IsCharBoundary};
+ghost use Rattle.std.specs.Prelude.{◌≡◌, ◌≤◌, ◌<◌, ◌^◌, ◌+◌, ◌-◌, ◌++◌, ℕ, List, Bool, true, length, take, drop, IfSome, IsTrue, IsFalse, IsCharBoundary};
 ghost use Rattle.litrs_lex.specs.Container.{is_pushable};
 ghost use Rattle.litrs_lex.specs.QuotedItems.{item_bytes};
 

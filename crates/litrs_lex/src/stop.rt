@@ -1,8 +1,6 @@
 //! The item or quote after the plain characters of a body.
-ghost use Rattle.std.specs.Prelude.{◌≡◌, ◌≤◌, ◌==◌, length, Some, IfSome, IfOk, IfErr, IsTrue, IsFalse};
-ghost use Rattle.std.specs.List.{prefix_len};
-ghost use Rattle.std.specs.Str.{chars, IsCharBoundary};
-ghost use Rattle.litrs_base.specs.Characters.{line_feed, double_quote, backslash, is_blank};
+ghost use Rattle.std.specs.Prelude.{◌≡◌, ◌≤◌, ◌==◌, ◌||◌, Some, IfSome, IfOk, IfErr, IsTrue, IsFalse, chars, IsCharBoundary};
+ghost use Rattle.litrs_base.specs.Characters.{double_quote, backslash};
 ghost use Rattle.litrs_base.specs.Text.{first_passes};
 ghost use Rattle.litrs_base.specs.declared.escape.Unescape.TheVariants.{Byte};
 ghost use Rattle.litrs_base.specs.declared.quotes.Switches.{Switches};
@@ -120,7 +118,7 @@ pub(crate) fn first_plain_end<A: Allows>(input: &str, from: usize, allowed: A) -
 }
 
 /// Like [`first_plain_end`], but starts with the mask of an earlier search, and returns the new
-/// mask. A backslash at `from` does not cost a search.
+/// mask. A backslash or `"` at `from` does not cost a search.
 #[inline(always)]
 pub(crate) fn plain_end(input: &str, from: usize, allowed: Switches, mask: Mask) -> (usize, Mask)
     requires at { IsCharBoundary input.now from }
@@ -130,11 +128,19 @@ pub(crate) fn plain_end(input: &str, from: usize, allowed: Switches, mask: Mask)
     ensures after { result.1.start ≤ result.0 }
     ensures mask { IsMaskOf (stops allowed.unicode allowed.allow_nul) input.now result.1 }
 {
-    if begins_with_byte(&input.as_bytes()[from..], b'\\') {
+    if begins_with_stop(&input.as_bytes()[from..]) {
         (from, mask)
     } else {
         next_special_masked(input.as_bytes(), from, special(allowed), mask)
     }
+}
+
+/// Returns `true` if `bytes` starts with a backslash or `"`.
+#[inline(always)]
+fn begins_with_stop(bytes: &[u8]) -> bool
+    ensures { result ≡ first_passes (λ c. (c == backslash) || (c == double_quote)) bytes.now }
+{
+    matches!(bytes.first(), Some(b'\\' | b'"'))
 }
 
 /// Returns `text` without its last character. An ASCII character, for example a closing quote, is

@@ -1,6 +1,5 @@
 //! The values of quoted strings, byte strings and C strings.
-ghost use Rattle.std.specs.Prelude.{◌≡◌, ◌≤◌, ◌<◌, ◌+◌, ◌==◌, [], ◌⊎◌, ◌||◌, not, if◌then◌else◌, length, take, drop, option_map, IfOk, IfErr, IsTrue, IsFalse};
-ghost use Rattle.std.specs.Str.{chars, IsUtf8, IsCharBoundary};
+ghost use Rattle.std.specs.Prelude.{◌≡◌, ◌≤◌, ◌<◌, ◌+◌, ◌==◌, [], ◌⊎◌, ◌||◌, not, if◌then◌else◌, length, take, drop, option_map, IfOk, IfErr, IsTrue, IsFalse, chars, IsUtf8, IsCharBoundary};
 ghost use Rattle.litrs_base.specs.Characters.{backslash};
 ghost use Rattle.litrs_base.specs.Text.{first_passes};
 ghost use Rattle.litrs_grammar.specs.Quoted.{QuotedParts, IsQuoted, body_value};
@@ -9,8 +8,7 @@ ghost use Rattle.litrs_lex.specs.QuotedItems.{IsPlainRun};
 ghost use Rattle.litrs_lex.specs.Reading.{IsReading, IsReadBody, IsReadAsValue, HasValueWithin};
 ghost use Rattle.litrs_lex.specs.Unescaped.{switches};
 
-use crate::Switches;
-use crate::allowed::Allows;
+use crate::allowed::{Allows, switches};
 use crate::container::EscapeContainer;
 use crate::filled::Filled;
 use crate::parse::begins_with_byte;
@@ -64,11 +62,7 @@ pub fn unescape_string<C: EscapeContainer>(
         IsQuotedRefused (switches unicode byte_escapes allow_nul) input.now offset e
         ⊎ IsQuotedOutOfMemory (switches unicode byte_escapes allow_nul) input.now offset e) }
 {
-    let allowed = Switches {
-        unicode,
-        byte_escapes,
-        allow_nul,
-    };
+    let allowed = switches(unicode, byte_escapes, allow_nul);
     unescape_string_with(alloc, input, offset, allowed)
 }
 

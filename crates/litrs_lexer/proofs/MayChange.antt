@@ -14,7 +14,8 @@ use Rattle.litrs_prefix.specs.Opens.{first_run, first_name, after_name, is_singl
 use Rattle.litrs_prefix.specs.Prefix.{is_quote_or_hash}
 use Rattle.litrs_prefix.proofs.LongerTexts.{stays}
 use Rattle.litrs_prefix.proofs.MayChange.{front_later, letter_follows_none, opens_unless_bool}
-use Rattle.litrs_prefix.proofs.OpenedStays.{some_left, first_stays, rest_kept, name_kept, name_taken, first_of_bool, x_begins}
+use Rattle.litrs_prefix.proofs.Names.{first_of_bool}
+use Rattle.litrs_prefix.proofs.MeantEnds.{some_left, first_stays, rest_kept, name_kept, name_taken, x_begins}
 use Rattle.litrs_lexer.specs.declared.kind.TokenKind.{TokenKind}
 use Rattle.litrs_lexer.specs.declared.kind.TokenKind.TheVariants.{Whitespace, LineComment, BlockComment, UnterminatedBlockComment, Ident, RawIdent, UnknownPrefix, Lifetime, RawLifetime, UnknownPrefixLifetime, Literal, MalformedLiteral, Punctuation, Unknown}
 use Rattle.litrs_lexer.specs.Comment.{IsBody, is_of_line, is_star_or_slash, starts_with_mark, after_line}

@@ -1,30 +1,25 @@
 -- The text before a delimiter is a front of the text.
-use Rattle.std.proofs.Common.{◌≡◌, ℕ, ◌+◌, ◌-◌, ◌≤◌, Bool, true, false, cond, ◌&&◌, List, [], ◌∷◌, ◌++◌, length, take, drop, None, refl, sym, ap, ◌∙◌, inl, inr, append_assoc, length-append, arith}
-use Rattle.std.specs.Prelude.{◌==◌, if◌then◌else◌, encode_utf8_all}
+use Rattle.std.proofs.Common.{◌≡◌, ℕ, ◌+◌, ◌-◌, ◌≤◌, Bool, true, false, ◌&&◌, List, [], ◌∷◌, ◌++◌, length, take, drop, refl, sym, ap, ◌∙◌, append_assoc, length-append, arith}
+use Rattle.std.specs.Prelude.{◌==◌, if◌then◌else◌}
 use Rattle.std.specs.Char.{is_whitespace}
 use Rattle.std.specs.Str.{chars, IsUtf8, IsCharBoundary, drop_trailing_whitespace, trim_end}
 use Rattle.std.proofs.lemmas.List.{drop_at, take-append-drop, append_cancel_right}
-use Rattle.std.proofs.lemmas.Str.{chars_from_encodes, encodes-append, encodes-chars}
-use Rattle.litrs_base.specs.Refusal.{Refusal, char_span_of, shifted_span}
+use Rattle.std.proofs.lemmas.Str.{chars_from_encodes}
 use Rattle.litrs_lex.proofs.CharCuts.{cut_at, byte_len-all}
 use Rattle.litrs_prefix.specs.declared.MalformedPrefix.{MalformedPrefix}
 use Rattle.litrs_prefix.specs.Ends.{IsEndOf}
-use Rattle.litrs_prefix.specs.Malformed.{prefix_span, IsMarkedAt}
+use Rattle.litrs_prefix.specs.Malformed.{IsMarkedAt}
 use Rattle.litrs_prefix.specs.Meant.{after_opened}
 use Rattle.litrs_prefix.specs.Opens.{opens}
-use Rattle.litrs_prefix.specs.Until.{is_delimiter, from_first, after_literal, from_delimiter, before_delimiter, StartsWithDelimiter, IsRefusedUntil}
-use Rattle.litrs_prefix.proofs.Ends.{end_of_end}
-use Rattle.litrs_prefix.proofs.Marks.{span_cut, piece_cut, no_char_span}
-use Rattle.litrs_prefix.proofs.MeantEnds.{opened_piece}
+use Rattle.litrs_prefix.specs.Until.{from_first, after_literal, from_delimiter, before_delimiter, StartsWithDelimiter, IsRefusedUntil}
+use Rattle.litrs_prefix.proofs.Ends.{all as whole, end_of_end}
+use Rattle.litrs_prefix.proofs.Marks.{front_marks}
+use Rattle.litrs_prefix.proofs.MeantEnds.{EndsAt, ends_at, next, either, opened_piece}
 
 -- the searched text ends with the text, and so does the found rest
-found_by : (ds : List ℕ) (c : ℕ) (t : List ℕ) (v : Bool) → IsEndOf t (from_first ds t) → IsEndOf (c ∷ t) (if v then c ∷ t else from_first ds t)
-found_by ds c t true end = ([], refl)
-found_by ds c t false end = (c ∷ end.0, ap (λ (l : List ℕ). c ∷ l) end.1)
-
 found_end : (ds : List ℕ) (t : List ℕ) → IsEndOf t (from_first ds t)
 found_end ds [] = ([], refl)
-found_end ds (c ∷ t) = found_by ds c t (is_delimiter ds c) (found_end ds t)
+found_end ds (c ∷ t) = either _ _ _ _ (whole (c ∷ t)) (next c t _ (found_end ds t))
 
 literal_end : (t : List ℕ) → IsEndOf t (after_literal t)
 literal_end t = go (opens t) refl
@@ -37,26 +32,14 @@ pub delimiter_end : (ds t : List ℕ) → IsEndOf t (from_delimiter ds t)
 delimiter_end ds t = end_of_end t (after_literal t) _ (literal_end t) (found_end ds (after_literal t))
 
 -- a delimiter comes first in what is found
-starts_by : (ds : List ℕ) (c : ℕ) (t : List ℕ) (v : Bool) → is_delimiter ds c ≡ v → StartsWithDelimiter ds (from_first ds t) →
-    StartsWithDelimiter ds (if v then c ∷ t else from_first ds t)
-starts_by ds c t true is next = is
-starts_by ds c t false is next = next
-
 pub starts_with_delimiter : (ds t : List ℕ) → StartsWithDelimiter ds (from_first ds t)
 starts_with_delimiter ds [] = refl
-starts_with_delimiter ds (c ∷ t) = starts_by ds c t (is_delimiter ds c) refl (starts_with_delimiter ds t)
+starts_with_delimiter ds (c ∷ t) = grind (arith, starts_with_delimiter ds t)
 
 -- the white space at the end of a text
-abbrev HasTrailing : List ℕ → List ℕ → Type 0
-HasTrailing t front = (white : List ℕ) × (front ++ white ≡ t)
-
-trailing_by : (c : ℕ) (t : List ℕ) (v : Bool) → HasTrailing t (drop_trailing_whitespace t) → HasTrailing (c ∷ t) (cond v [] (c ∷ drop_trailing_whitespace t))
-trailing_by c t true more = (c ∷ t, refl)
-trailing_by c t false more = (more.0, ap (λ (l : List ℕ). c ∷ l) more.1)
-
-trailing : (t : List ℕ) → HasTrailing t (drop_trailing_whitespace t)
+trailing : (t : List ℕ) → (white : List ℕ) × (drop_trailing_whitespace t ++ white ≡ t)
 trailing [] = ([], refl)
-trailing (c ∷ t) = trailing_by c t (is_whitespace c && (length (drop_trailing_whitespace t) == 0)) (trailing t)
+trailing (c ∷ t) = ((if is_whitespace c && (length (drop_trailing_whitespace t) == 0) then c ∷ t else (trailing t).0), grind (arith, trailing t))
 
 -- a text without its end
 pub before_end : (t x : List ℕ) → IsEndOf t x → take (length t - length x) t ++ x ≡ t
@@ -83,33 +66,10 @@ pub trimmed : (bs r : List ℕ) → IsUtf8 r → r ≡ trim_end bs → chars r �
 unfolding trim_end
 trimmed bs r u is = sym (chars_from_encodes (drop_trailing_whitespace (chars bs)) r u (sym is))
 
--- the same end of a text, in bytes
-pub bytes_end : (bs rest front : List ℕ) → IsUtf8 bs → IsUtf8 rest → front ++ chars rest ≡ chars bs → IsEndOf bs rest
-bytes_end bs rest front u v is = (
-  encode_utf8_all front,
-  ap (λ (l : List ℕ). encode_utf8_all front ++ l) (sym (encodes-chars rest v))
-      ∙ (sym (encodes-append front (chars rest)) ∙ (ap encode_utf8_all is ∙ encodes-chars bs u)),
-)
-
 -- the part that the error of a front of the text after `start` bytes marks
 pub refused_marks : (bs front more : List ℕ) (start : ℕ) (e : MalformedPrefix) → IsUtf8 bs → IsCharBoundary bs start →
     front ++ more ≡ chars (drop start bs) → IsRefusedUntil start front e → IsMarkedAt start bs e
-refused_marks bs front more start e u bound spells at =
-    let piece = piece_cut bs front more start e u bound spells (sym at.len) in
-    elim at.refused [
-      | inl is ↦ (piece, span_cut bs front more start (prefix_span start e) (char_span_of at.of_text) (char_span_of e.error) u bound spells piece at.char_span is.char_ends)
-      | inr is ↦ (
-          let none = no_char_span (record { error = at.of_text; len = e.len }) (ap (λ (r : Refusal). r.span) is.error) in
-          (piece, span_cut bs front more start (prefix_span start e) None (char_span_of e.error) u bound spells piece (at.char_span ∙ ap (shifted_span start) none) tt))
-    ]
-
--- the text that is parsed
-pub taken : (ds source text rest front : List ℕ) (start : ℕ) → text ≡ drop start source → chars rest ≡ from_delimiter ds (chars text) →
-    chars front ≡ drop_trailing_whitespace (take (length (chars text) - length (chars rest)) (chars text)) →
-    chars front ≡ before_delimiter ds (chars (drop start source))
-taken ds source text rest front start same from before =
-    before ∙ (ap (λ (x : List ℕ). drop_trailing_whitespace (take (length (chars text) - length x) (chars text))) from
-    ∙ ap (λ (l : List ℕ). before_delimiter ds (chars l)) same)
+refused_marks bs front more start e u bound spells at = front_marks bs front more start e at.of_text u bound spells (sym at.len) at.char_span at.refused
 
 -- a front of a text is not longer
 pub front_fits : (text front more : List ℕ) → IsUtf8 text → IsUtf8 front → chars front ++ more ≡ chars text → length front ≤ length text
@@ -121,3 +81,18 @@ front_fits text front more u v is =
 -- the part before an end, by both
 pub before_is : (t x front : List ℕ) → front ++ x ≡ t → front ≡ take (length t - length x) t
 before_is t x front spells = append_cancel_right front (take (length t - length x) t) x (spells ∙ sym (before_end t x (front, spells)))
+
+-- the place of the delimiter, in bytes
+pub cut_before : (ds text rest : List ℕ) → IsUtf8 text → IsUtf8 rest → chars rest ≡ from_delimiter ds (chars text) → EndsAt text rest (delimiter_end ds (chars text)).0
+cut_before ds text rest u v from =
+    let end = delimiter_end ds (chars text) in
+    ends_at text rest end.0 u v (ap (λ (l : List ℕ). end.0 ++ l) from ∙ end.1)
+
+-- the text that is parsed
+pub taken : (ds source text rest cut front : List ℕ) (start : ℕ) → IsUtf8 text → IsUtf8 rest → IsUtf8 front → text ≡ drop start source → chars rest ≡ from_delimiter ds (chars text) →
+    cut ≡ take (length text - length rest) text → front ≡ trim_end cut → chars front ≡ before_delimiter ds (chars (drop start source))
+taken ds source text rest cut front start u v w same from before trim =
+    let end = delimiter_end ds (chars text) in
+    trimmed cut front w trim
+    ∙ (ap drop_trailing_whitespace (ap chars before ∙ ((cut_before ds text rest u v from).before ∙ before_is (chars text) (from_delimiter ds (chars text)) end.0 end.1))
+    ∙ ap (λ (l : List ℕ). before_delimiter ds (chars l)) same)

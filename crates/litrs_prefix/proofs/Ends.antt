@@ -1,9 +1,9 @@
 -- Ends of texts, in bytes.
 use Rattle.std.proofs.Common.{◌≡◌, ℕ, ◌+◌, ◌-◌, ◌<◌, ◌≤◌, List, [], ◌++◌, length, take, drop, refl, sym, ap, subst, ◌∙◌, append_assoc, append-nil, length-append, arith}
-use Rattle.std.specs.Prelude.{encode_utf8}
+use Rattle.std.specs.Prelude.{encode_utf8, encode_utf8_all}
 use Rattle.std.specs.Str.{chars, IsUtf8, IsCharBoundary}
 use Rattle.std.proofs.lemmas.List.{append_cancel_right, drop_at, take-append-drop}
-use Rattle.std.proofs.lemmas.Str.{chars-append, length-encode, len_utf8_bounds, IsCharBoundary-from_drop, IsUtf8-take}
+use Rattle.std.proofs.lemmas.Str.{chars-append, encodes-append, encodes-chars, length-encode, len_utf8_bounds, IsCharBoundary-from_drop, IsUtf8-take}
 use Rattle.litrs_prefix.specs.Ends.{IsEndOf}
 
 pub all : (t : List ℕ) → IsEndOf t t
@@ -39,6 +39,12 @@ end_at bs front after u is =
     let place : length bs - length after ≡ length front = omega arith in
     let left : drop (length bs - length after) bs ≡ after = ap (drop (length bs - length after)) (sym is) ∙ drop_at front after (length bs - length after) (sym place) in
     (IsCharBoundary-from_drop bs (length bs - length after) (omega arith) (subst (λ (l : List ℕ). IsUtf8 l) (sym left) u), left)
+
+-- the end that these characters are, in bytes
+pub bytes_spell : (bs rest front : List ℕ) → IsUtf8 bs → IsUtf8 rest → front ++ chars rest ≡ chars bs → encode_utf8_all front ++ rest ≡ bs
+bytes_spell bs rest front u v is =
+    ap (λ (l : List ℕ). encode_utf8_all front ++ l) (sym (encodes-chars rest v))
+    ∙ (sym (encodes-append front (chars rest)) ∙ (ap encode_utf8_all is ∙ encodes-chars bs u))
 
 pub end_boundary : (t rest : List ℕ) → IsUtf8 rest → IsEndOf t rest → IsCharBoundary t (length t - length rest)
 end_boundary t rest u h = (end_at t h.0 rest u h.1).0

@@ -1,6 +1,8 @@
 -- Extents of literals, valid or malformed, by what follows them.
-use Rattle.std.proofs.Common.{◌≡◌, ℕ, ◌-◌, ◌≤◌, true, false, List, [], ◌∷◌, ◌++◌, length, take, drop, None, refl, sym, ap, subst, ◌∙◌, arith}
+use Rattle.std.proofs.Common.{◌≡◌, ℕ, ◌-◌, ◌≤◌, true, false, List, [], ◌++◌, length, take, drop, None, refl, sym, ap, subst, ◌∙◌, arith}
 use Rattle.std.specs.Char.{is_ascii_digit}
+use Rattle.std.specs.List.{list_all}
+use Rattle.std.specs.Prelude.{ltb}
 use Rattle.std.specs.Str.{chars, IsUtf8}
 use Rattle.std.proofs.lemmas.List.{take_all, drop_all}
 use Rattle.std.proofs.lemmas.Str.{chars-nil, IsUtf8-nil}
@@ -10,7 +12,7 @@ use Rattle.litrs_base.specs.declared.quotes.CharKind.TheVariants.{Char as char_k
 use Rattle.litrs_base.specs.declared.quotes.StringKind.{StringKind}
 use Rattle.litrs_base.specs.declared.quotes.StringKind.TheVariants.{String as string_kind, ByteString as byte_string_kind, CString as c_string_kind}
 use Rattle.litrs_base.specs.Quotes.{char_front, quoted_front, raw_front}
-use Rattle.litrs_base.specs.Text.{first_passes}
+use Rattle.litrs_base.specs.Text.{begins_with, first_passes}
 use Rattle.litrs_grammar.specs.Literal.{IsLiteral}
 use Rattle.litrs_prefix.specs.Ends.{HasLiteralBefore, IsOnlyRest}
 use Rattle.litrs_prefix.specs.Extent.{IsLiteralLen, IsMalformedLen}
@@ -21,6 +23,7 @@ use Rattle.litrs_prefix.proofs.Ends.{end_at, not_longer}
 use Rattle.litrs_prefix.proofs.Judged.{judged_none, malformed_piece}
 use Rattle.litrs_prefix.proofs.MeantEnds.{OpenedAt, opened_at}
 use Rattle.litrs_prefix.proofs.NumberEnds.{only_unless_digit}
+use Rattle.litrs_prefix.proofs.Runs.{front_cut}
 
 -- a literal ends where its rest begins
 pub literal_len : (bs rest : List ℕ) → HasLiteralBefore bs rest → IsLiteralLen bs (length bs - length rest)
@@ -46,40 +49,26 @@ whole_malformed bs u opens_at after digit invalid =
 
 -- no front of another kind than a number starts with a digit
 
-char_no_digit : (kind : CharKind) (x : List ℕ) → first_passes is_ascii_digit (char_front kind ++ x) ≡ false
-char_no_digit char_kind x = refl
-char_no_digit byte_kind x = refl
-
-quoted_no_digit : (kind : StringKind) (x : List ℕ) → first_passes is_ascii_digit (quoted_front kind ++ x) ≡ false
-quoted_no_digit string_kind x = refl
-quoted_no_digit byte_string_kind x = refl
-quoted_no_digit c_string_kind x = refl
-
-raw_no_digit : (kind : StringKind) (x : List ℕ) → first_passes is_ascii_digit (raw_front kind ++ x) ≡ false
-raw_no_digit string_kind x = refl
-raw_no_digit byte_string_kind x = refl
-raw_no_digit c_string_kind x = refl
-
-pub char_digit : (kind : CharKind) (t x : List ℕ) → t ≡ char_front kind ++ x → first_passes is_ascii_digit t ≡ false
-char_digit kind t x is = ap (first_passes is_ascii_digit) is ∙ char_no_digit kind x
-
 pub quoted_digit : (kind : StringKind) (t x : List ℕ) → t ≡ quoted_front kind ++ x → first_passes is_ascii_digit t ≡ false
-quoted_digit kind t x is = ap (first_passes is_ascii_digit) is ∙ quoted_no_digit kind x
+quoted_digit kind t x is = rw is (grind arith)
 
 pub raw_digit : (kind : StringKind) (t x : List ℕ) → t ≡ raw_front kind ++ x → first_passes is_ascii_digit t ≡ false
-raw_digit kind t x is = ap (first_passes is_ascii_digit) is ∙ raw_no_digit kind x
+raw_digit kind t x is = rw is (grind arith)
 
-pub only_char : (kind : CharKind) (t x : List ℕ) → t ≡ char_front kind ++ x → IsOnlyRest t (after_opened t)
-only_char kind t x is = only_unless_digit t (char_digit kind t x is)
+-- the text after an ASCII front
+pub after_front : (word bs body : List ℕ) (n : ℕ) → list_all (λ c. ltb c 128) word ≡ true → IsUtf8 bs → begins_with word bs ≡ true → n ≡ length word → body ≡ drop n bs → chars bs ≡ word ++ chars body
+after_front word bs body n low u begins is back = sym (front_cut word bs n low u begins is).1 ∙ ap (λ (l : List ℕ). word ++ chars l) (sym back)
 
-pub only_quoted : (kind : StringKind) (t x : List ℕ) → t ≡ quoted_front kind ++ x → IsOnlyRest t (after_opened t)
-only_quoted kind t x is = only_unless_digit t (quoted_digit kind t x is)
+pub char_low : (kind : CharKind) → list_all (λ c. ltb c 128) (char_front kind) ≡ true
+char_low char_kind = refl
+char_low byte_kind = refl
 
-pub only_raw : (kind : StringKind) (t x : List ℕ) → t ≡ raw_front kind ++ x → IsOnlyRest t (after_opened t)
-only_raw kind t x is = only_unless_digit t (raw_digit kind t x is)
+pub quoted_low : (kind : StringKind) → list_all (λ c. ltb c 128) (quoted_front kind) ≡ true
+quoted_low string_kind = refl
+quoted_low byte_string_kind = refl
+quoted_low c_string_kind = refl
 
-pub only_other : (c : ℕ) (t x : List ℕ) → t ≡ c ∷ x → is_ascii_digit c ≡ false → IsOnlyRest t (after_opened t)
-only_other c t x is digit = only_unless_digit t (ap (first_passes is_ascii_digit) is ∙ digit)
-
-pub only_nothing : (t : List ℕ) → t ≡ [] → IsOnlyRest t (after_opened t)
-only_nothing t is = only_unless_digit t (ap (first_passes is_ascii_digit) is)
+pub raw_low : (kind : StringKind) → list_all (λ c. ltb c 128) (raw_front kind) ≡ true
+raw_low string_kind = refl
+raw_low byte_string_kind = refl
+raw_low c_string_kind = refl

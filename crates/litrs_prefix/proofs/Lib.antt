@@ -6,16 +6,12 @@ pub mod Runs
 pub mod Opened
 -- facts that longer texts keep; the literal is the only one
 pub mod LongerTexts
-pub mod Suffixes
-pub mod Quoted
 pub mod Chars
 pub mod Numbers
 pub mod Unique
 pub mod MoreText
-pub mod OpenedStays
 pub mod MayChange
 -- a literal at the front is found
-pub mod OnlyRest
 pub mod NumberEnds
 -- malformed prefixes
 pub mod Pieces
@@ -30,9 +26,9 @@ pub mod Delimiters
 pub mod Judged
 -- literals and strings that are read once
 pub mod Extents
-pub mod NumberExtents
 pub mod PlainLiterals
 pub mod PlainStrings
-pub mod Unclosed
+-- the words and lemmas of the answers
+pub mod Words
 -- examples
 pub mod Examples

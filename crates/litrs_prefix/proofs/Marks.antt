@@ -10,6 +10,9 @@ use Rattle.litrs_base.specs.CharEnd.{PointsAtCharacters, IsCutBy}
 use Rattle.litrs_base.specs.Refusal.{Refusal, char_span_of, refusal_of, shifted_span}
 use Rattle.litrs_base.specs.Text.{byte_len}
 use Rattle.litrs_base.proofs.CharEnds.{points_cut}
+use Rattle.litrs_base.specs.declared.err.ParseError.{ParseError}
+use Rattle.litrs_grammar.specs.Literal.{literal_parse}
+use Rattle.litrs_grammar.specs.Refused.{IsRefusedOrOutOfMemory}
 use Rattle.litrs_lex.proofs.CharCuts.{cut_at}
 use Rattle.litrs_prefix.specs.declared.MalformedPrefix.{MalformedPrefix}
 use Rattle.litrs_prefix.specs.Malformed.{IsMalformedOrOutOfMemory, IsMovedBy, prefix_span, IsMarkedAt}
@@ -60,7 +63,7 @@ cut_after bs start span fits cut =
     }
 
 -- a span in a front of what follows, moved; or the front, if there is no span
-pub span_cut : (bs front rest : List ℕ) (start : ℕ) (piece : Range ℕ) (o p : Option (Range ℕ)) → IsUtf8 bs → IsCharBoundary bs start → front ++ rest ≡ chars (drop start bs) →
+span_cut : (bs front rest : List ℕ) (start : ℕ) (piece : Range ℕ) (o p : Option (Range ℕ)) → IsUtf8 bs → IsCharBoundary bs start → front ++ rest ≡ chars (drop start bs) →
     IsCutBy bs piece → p ≡ shifted_span start o → IfSome o (PointsAtCharacters front) → IsCutBy bs (unwrap_or p piece)
 span_cut bs front rest start piece None p utf8 bound spells whole same all = rw same whole
 span_cut bs front rest start piece (Some span) p utf8 bound spells whole same all =
@@ -73,7 +76,7 @@ span_cut bs front rest start piece (Some span) p utf8 bound spells whole same al
     let inside = points_cut (take n text) span (IsUtf8-take text n after cut.boundary) points in
     rw same (cut_after bs start span bound.0 (cut_in text n span cut.boundary inside))
 
-pub piece_cut : (bs front rest : List ℕ) (start : ℕ) (e : MalformedPrefix) → IsUtf8 bs → IsCharBoundary bs start → front ++ rest ≡ chars (drop start bs) → byte_len front ≡ e.len →
+piece_cut : (bs front rest : List ℕ) (start : ℕ) (e : MalformedPrefix) → IsUtf8 bs → IsCharBoundary bs start → front ++ rest ≡ chars (drop start bs) → byte_len front ≡ e.len →
     IsCutBy bs (prefix_span start e)
 piece_cut bs front rest start e utf8 bound spells len =
     let text : List ℕ = drop start bs in
@@ -81,27 +84,26 @@ piece_cut bs front rest start e utf8 bound spells len =
     let end = IsCharBoundary-from_rest bs start e.len bound.0 (subst (λ (n : ℕ). IsCharBoundary text n) len cut.boundary) in
     record { start = bound; end = end; in_order = omega arith; within = end.0 }
 
-pub no_char_span : (e : MalformedPrefix) → (refusal_of e.error).span ≡ None → char_span_of e.error ≡ None
-no_char_span e none = ap (option_map (λ (span : Range ℕ). record { start = span.start; end = e.error.char_end })) none
+-- the error of a front of what follows `start` bytes of the text
+pub front_marks : (bs front rest : List ℕ) (start : ℕ) (e : MalformedPrefix) (of_text : ParseError) → IsUtf8 bs → IsCharBoundary bs start → front ++ rest ≡ chars (drop start bs) → byte_len front ≡ e.len →
+    char_span_of e.error ≡ shifted_span start (char_span_of of_text) → IsRefusedOrOutOfMemory literal_parse front of_text → IsMarkedAt start bs e
+front_marks bs front rest start e of_text utf8 bound spells len same refused =
+    let piece = piece_cut bs front rest start e utf8 bound spells len in
+    (piece, span_cut bs front rest start (prefix_span start e) (char_span_of of_text) (char_span_of e.error) utf8 bound spells piece same (points refused))
+  where
+    points : IsRefusedOrOutOfMemory literal_parse front of_text → IfSome (char_span_of of_text) (PointsAtCharacters front)
+    points (inl is) = is.char_ends
+    points (inr is) = subst (λ (s : Option (Range ℕ)). IfSome (option_map (λ (span : Range ℕ). record { start = span.start; end = of_text.char_end }) s) (PointsAtCharacters front)) (sym (ap (λ (r : Refusal). r.span) is.error)) tt
 
 -- the error of what follows `start` bytes of the text
 pub moved_marks : (bs : List ℕ) (start : ℕ) (e : MalformedPrefix) → IsUtf8 bs → IsCharBoundary bs start → IsMovedBy start (chars (drop start bs)) e → IsMarkedAt start bs e
 moved_marks bs start e utf8 bound moved = elim moved.malformed [
-  | inl is ↦ (
-      let piece = piece_cut bs is.front is.rest start e utf8 bound is.spells (is.len ∙ sym moved.len) in
-      (piece, span_cut bs is.front is.rest start (prefix_span start e) (char_span_of moved.of_text.error) (char_span_of e.error) utf8 bound is.spells piece moved.char_span is.refused.char_ends))
-  | inr is ↦ (
-      let piece = piece_cut bs is.front is.rest start e utf8 bound is.spells (is.len ∙ sym moved.len) in
-      let none = no_char_span moved.of_text (ap (λ (r : Refusal). r.span) is.refused.error) in
-      (piece, span_cut bs is.front is.rest start (prefix_span start e) None (char_span_of e.error) utf8 bound is.spells piece (moved.char_span ∙ ap (shifted_span start) none) tt))
+  | inl is ↦ front_marks bs is.front is.rest start e moved.of_text.error utf8 bound is.spells (is.len ∙ sym moved.len) moved.char_span (inl is.refused)
+  | inr is ↦ front_marks bs is.front is.rest start e moved.of_text.error utf8 bound is.spells (is.len ∙ sym moved.len) moved.char_span (inr is.refused)
 ]
 
 not_moved : (o : Option (Range ℕ)) → o ≡ shifted_span 0 o
-not_moved None = refl
-not_moved (Some span) =
-    let start : span.start ≡ span.start + 0 = omega arith in
-    let end : span.end ≡ span.end + 0 = omega arith in
-    λ i. Some (record { start = start i; end = end i })
+not_moved o = grind arith
 
 -- the error of the text
 pub malformed_marks : (bs : List ℕ) (e : MalformedPrefix) → IsUtf8 bs → IsMalformedOrOutOfMemory (chars bs) e → IsMarkedAt 0 bs e

@@ -1,34 +1,32 @@
 -- Answers that more text changes, and those that stay.
-use Rattle.std.proofs.Common.{◌≡◌, eqb, ltb, ℕ, ◌+◌, Bool, true, false, not, ◌&&◌, ◌||◌, List, [], ◌∷◌, ◌++◌, length, length-append, refl, sym, ap, subst, ◌∙◌, append_assoc, append-nil, arith}
-use Rattle.std.specs.Prelude.{codes, ◌==◌, if◌then◌else◌}
+use Rattle.std.proofs.Common.{◌≡◌, ◌⊎◌, inl, inr, eqb, ltb, ℕ, Bool, true, false, ◌||◌, List, [], ◌∷◌, ◌++◌, length, length-append, refl, sym, ap, subst, ◌∙◌, append_assoc, append-nil, arith}
+use Rattle.std.specs.Prelude.{codes}
 use Rattle.std.specs.Char.{is_ascii_digit}
 use Rattle.std.specs.List.{list_all}
-use Rattle.std.specs.Cmp.Lexicographic.{pointwise, same_text, other_text}
+use Rattle.std.specs.Cmp.Lexicographic.{pointwise}
 use Rattle.std.specs.Str.{chars, IsUtf8}
 use Rattle.litrs_base.proofs.Chars.{is_text-chars}
-use Rattle.std.proofs.lemmas.Bool.{and_parts, and_from, eq-eqb, and_left, eqb-true, true≢false, false≢true}
+use Rattle.std.proofs.lemmas.Bool.{and_parts, and_left, or_right, or_cases, cases_Bool, true≢false, false≢true, false_from_ne_true}
+use Rattle.std.proofs.lemmas.Bool.Decides.{nat_tests}
 use Rattle.std.proofs.lemmas.List.{append_cancel_left}
 use Rattle.std.proofs.lemmas.List.Folds.{list_all-append}
-use Rattle.unicode_ident.specs.Ident.{is_xid_continue}
 use Rattle.unicode_ident.proofs.IdentLemmas.{is_xid_start-ascii}
 use Rattle.litrs_base.specs.Characters.{is_scalar}
 use Rattle.litrs_base.specs.Text.{IsText, first_passes, is_empty, is_text}
-use Rattle.litrs_base.proofs.ListTests.{if_false}
 use Rattle.litrs_grammar.specs.Bool.{bool_text, is_bool}
-use Rattle.litrs_grammar.specs.Literal.{Derivation, a_bool, an_integer, a_float, a_char, a_byte, a_string, a_byte_string, a_c_string, string_suffix, literal_parse, Begins}
-use Rattle.litrs_grammar.specs.Raw.{is_hash, is_quote}
-use Rattle.litrs_grammar.specs.Suffix.{starts_identifier}
+use Rattle.litrs_grammar.specs.Literal.{Derivation, a_bool, literal_parse, Begins}
+use Rattle.litrs_grammar.specs.Raw.{is_quote}
 use Rattle.litrs_grammar.proofs.Laws.Literal.{is_text-is, some_bool}
 use Rattle.litrs_prefix.specs.GoesOn.{PrefixGoesOn}
 use Rattle.litrs_prefix.specs.Laws.{MalformedStay}
 use Rattle.litrs_prefix.specs.MayChange.{Answer, none, literal, malformed, IsMalformedFront, IsAnswer, AnswerStays, AnswerChanges, OpensNever, OpensLater, is_open_prefix, is_open_front, is_quoted_line_feed}
 use Rattle.litrs_prefix.specs.Meant.{after_opened}
-use Rattle.litrs_prefix.specs.Opens.{first_run, first_name, after_run, after_name, after_hashes, is_single_quote, begins_lifetime, opens_raw, opens_bytes, opens_c_string, opens}
-use Rattle.litrs_prefix.specs.Prefix.{is_of_suffix, ends_suffix, may_follow, HasPrefix, HasNoPrefix}
+use Rattle.litrs_prefix.specs.Opens.{first_run, first_name, after_name, after_hashes, begins_lifetime, opens_raw, opens_bytes, opens_c_string, opens}
+use Rattle.litrs_prefix.specs.Prefix.{may_follow, HasPrefix, HasNoPrefix}
 use Rattle.litrs_prefix.proofs.Names.{quote_stops}
 use Rattle.litrs_prefix.proofs.LongerTexts.{whole, stays}
 use Rattle.litrs_prefix.proofs.Opened.{opened}
-use Rattle.litrs_prefix.proofs.OpenedStays.{seven, letter_is_taken, opened_stays, raw_stays, lifetime_stays, name_kept, x_goes_on, x_begins}
+use Rattle.litrs_prefix.proofs.MeantEnds.{letter_is_taken, opened_stays, raw_stays, lifetime_stays, name_kept, run_whole, x_goes_on, x_begins}
 use Rattle.litrs_prefix.proofs.Unique.{unique}
 
 -- a malformed literal
@@ -36,49 +34,36 @@ use Rattle.litrs_prefix.proofs.Unique.{unique}
 -- it is longer if all of the longer text is taken for it
 longer_front : (t : List ℕ) (c : ℕ) (m front : List ℕ) → after_opened (t ++ c ∷ m) ≡ [] → IsMalformedFront t front → IsMalformedFront (t ++ c ∷ m) front → ⊥
 longer_front t c m front taken is longer =
-    let short : length t ≡ length front + length is.rest = ap length (sym is.spells) ∙ length-append front is.rest in
-    let all : longer.meant.piece ≡ t ++ c ∷ m =
-    sym (append-nil longer.meant.piece) ∙ (ap (λ (l : List ℕ). longer.meant.piece ++ l) (sym taken) ∙ longer.meant.opened) in
-    let long : length front ≡ length longer.meant.piece + length longer.meant.more = ap length (sym longer.meant.longer) ∙ length-append longer.meant.piece longer.meant.more in
-    let size : length longer.meant.piece ≡ length t + length (c ∷ m) = ap length all ∙ length-append t (c ∷ m) in
-    omega arith
+    let opened = ap length longer.meant.opened in
+    absurd (omega (arith, length-append {A = ℕ}, ap length is.spells, ap length longer.meant.longer, opened, ap length taken))
+
+malformed_by : (t more : List ℕ) → opens t ≡ true → HasNoPrefix t → IsText more → ((front : List ℕ) → IsMalformedFront t front → IsMalformedFront (t ++ more) front → ⊥) → AnswerChanges t
+malformed_by t more h absent text differ = (more, text, go)
+  where
+    go : (answer : Answer) → IsAnswer t answer → IsAnswer (t ++ more) answer → ⊥
+    go none is longer = true≢false (sym h ∙ is)
+    go (literal d front) is longer = absent d is.0 is.2
+    go (malformed front) is longer = differ front is longer
 
 pub malformed_changes : (t : List ℕ) (c : ℕ) (m : List ℕ) → opens t ≡ true → HasNoPrefix t → IsText (c ∷ m) → after_opened (t ++ c ∷ m) ≡ [] → AnswerChanges t
-malformed_changes t c m h absent text taken = (c ∷ m, text, go)
-  where
-    go : (answer : Answer) → IsAnswer t answer → IsAnswer (t ++ c ∷ m) answer → ⊥
-    go none is longer = true≢false (sym h ∙ is)
-    go (literal d front) is longer = absent d is.0 is.2
-    go (malformed front) is longer = longer_front t c m front taken is longer
+malformed_changes t c m h absent text taken = malformed_by t (c ∷ m) h absent text (λ front is longer. longer_front t c m front taken is longer)
 
 pub malformed_completes : (t : List ℕ) → opens t ≡ true → HasNoPrefix t → PrefixGoesOn t → AnswerChanges t
-malformed_completes t h absent more = (more.more, more.is_text, go)
-  where
-    go : (answer : Answer) → IsAnswer t answer → IsAnswer (t ++ more.more) answer → ⊥
-    go none is longer = true≢false (sym h ∙ is)
-    go (literal d front) is longer = absent d is.0 is.2
-    go (malformed front) is longer = longer.none more.literal more.rest more.found
+malformed_completes t h absent more = malformed_by t more.more h absent more.is_text (λ front is longer. longer.none more.literal more.rest more.found)
+
+pub is_nothing : (l : List ℕ) → is_empty l ≡ true → l ≡ []
+is_nothing l h = grind arith
 
 -- all of the text is taken, and so is a letter after it
 pub malformed_reaches_end : (t : List ℕ) → opens t ≡ true → HasNoPrefix t → is_empty (after_opened t) ≡ true → AnswerChanges t
-malformed_reaches_end t h absent end = malformed_changes t 120 [] h absent refl (letter_is_taken t h (empty (after_opened t) end))
-  where
-    empty : (l : List ℕ) → is_empty l ≡ true → l ≡ []
-    empty [] e = refl
-    empty (y ∷ l) e = absurd (false≢true e)
+malformed_reaches_end t h absent end = malformed_changes t 120 [] h absent refl (letter_is_taken t h (is_nothing (after_opened t) end))
 
 -- a test of the bytes is one of the characters
-text_self : (w : List ℕ) → is_text w w ≡ true
-text_self [] = refl
-text_self (c ∷ w) = and_from (c == c) (is_text w w) (eq-eqb c c refl) (text_self w)
-
 text_test : (w bs : List ℕ) → is_text w bs ≡ pointwise eqb bs w
-text_test w bs = go (pointwise eqb bs w) (is_text w bs) refl refl
-  where
-    go : (v u : Bool) → pointwise eqb bs w ≡ v → is_text w bs ≡ u → u ≡ v
-    go true u e f = sym f ∙ (ap (is_text w) (same_text bs w (sym e)) ∙ text_self w)
-    go false true e f = absurd (other_text bs w (sym e) (sym (is_text-is w bs f)))
-    go false false e f = refl
+text_test [] [] = refl
+text_test [] (d ∷ bs) = refl
+text_test (c ∷ w) [] = refl
+text_test (c ∷ w) (d ∷ bs) = grind (arith, nat_tests, text_test w bs)
 
 pub char_test : (w bs : List ℕ) → list_all (λ c. ltb c 128) w ≡ true → IsUtf8 bs → is_text w (chars bs) ≡ pointwise eqb bs w
 char_test w bs low u = is_text-chars w bs low u ∙ text_test w bs
@@ -91,15 +76,10 @@ line_feed_test bs u =
 
 -- texts that a `'` after the line feed makes longer
 pub malformed_line_feed : (t : List ℕ) → opens t ≡ true → HasNoPrefix t → is_quoted_line_feed t ≡ true → AnswerChanges t
-malformed_line_feed t h absent is = go (is_text (codes "'\n") t) refl is
-  where
-    go : (v : Bool) → is_text (codes "'\n") t ≡ v → (v || is_text (codes "b'\n") t) ≡ true → AnswerChanges t
-    go true e is =
-        let same : t ≡ codes "'\n" = sym (is_text-is (codes "'\n") t e) in
-        malformed_changes t 39 [] h absent refl (ap (λ (l : List ℕ). after_opened (l ++ 39 ∷ [])) same)
-    go false e is =
-        let same : t ≡ codes "b'\n" = sym (is_text-is (codes "b'\n") t is) in
-        malformed_changes t 39 [] h absent refl (ap (λ (l : List ℕ). after_opened (l ++ 39 ∷ [])) same)
+malformed_line_feed t h absent is = malformed_changes t 39 [] h absent refl (elim (or_cases (is_text (codes "'\n") t) _ is) [
+  | inl char ↦ ap (λ (l : List ℕ). after_opened (l ++ 39 ∷ [])) (sym (is_text-is (codes "'\n") t char))
+  | inr byte ↦ ap (λ (l : List ℕ). after_opened (l ++ 39 ∷ [])) (sym (is_text-is (codes "b'\n") t byte))
+])
 
 malformed_longer : (t m front : List ℕ) → opens (t ++ m) ≡ true → after_opened (t ++ m) ≡ after_opened t ++ m → HasNoPrefix (t ++ m) →
     IsMalformedFront t front → IsMalformedFront (t ++ m) front
@@ -174,23 +154,9 @@ literal_stays t d c rest at = go
         )
     go (malformed front) m text is = absurd (is.none d (c ∷ rest) at)
 
-x_of_suffix : (v : Bool) → is_of_suffix v 120 ≡ true
-x_of_suffix true = x_begins
-x_of_suffix false = x_goes_on
-
-x_ends_none : (s : List ℕ) → ends_suffix s (120 ∷ []) ≡ false
-x_ends_none s = ap not (x_of_suffix (is_empty s))
-
 -- no literal ends before a letter
 pub letter_follows_none : (d : Derivation) → may_follow d (120 ∷ []) ≡ false
-letter_follows_none (a_bool b) = and_left _ _ (ap not x_goes_on)
-letter_follows_none (an_integer d) = and_left _ _ (x_ends_none d.suffix)
-letter_follows_none (a_float d) = and_left _ _ (x_ends_none d.suffix)
-letter_follows_none (a_char d) = x_ends_none d.suffix
-letter_follows_none (a_byte d) = x_ends_none d.suffix
-letter_follows_none (a_string d) = x_ends_none (string_suffix d)
-letter_follows_none (a_byte_string d) = x_ends_none (string_suffix d)
-letter_follows_none (a_c_string d) = x_ends_none (string_suffix d)
+letter_follows_none d = grind (arith, x_begins, x_goes_on)
 
 pub literal_changes : (t : List ℕ) (d : Derivation) → HasPrefix t d [] → AnswerChanges t
 literal_changes t d at = (120 ∷ [], refl, go)
@@ -226,110 +192,43 @@ pub begins_later : (t : List ℕ) → Begins literal_parse t → OpensLater t
 begins_later t b = (b.0, b.2, opened (t ++ b.0) b.1 [] (whole (t ++ b.0) b.1 b.3))
 
 -- a front that is open
-run_to : (t m : List ℕ) → is_empty (after_run t) ≡ true → after_run (t ++ m) ≡ after_run m
-run_to [] m h = refl
-run_to (c ∷ t) m h = go (is_xid_continue c) (run_to t m) h
-  where
-    go : (v : Bool) → (is_empty (after_run t) ≡ true → after_run (t ++ m) ≡ after_run m) → is_empty (if v then after_run t else (c ∷ t)) ≡ true → (if v then after_run (t ++ m) else (c ∷ (t ++ m))) ≡ after_run m
-    go true rest h = rest h
-    go false rest h = absurd (false≢true h)
 
 hashes_to : (t m : List ℕ) → is_empty (after_hashes t) ≡ true → after_hashes (t ++ m) ≡ after_hashes m
 hashes_to [] m h = refl
-hashes_to (c ∷ t) m h = go (is_hash c) (hashes_to t m) h
-  where
-    go : (v : Bool) → (is_empty (after_hashes t) ≡ true → after_hashes (t ++ m) ≡ after_hashes m) → is_empty (if v then after_hashes t else (c ∷ t)) ≡ true → (if v then after_hashes (t ++ m) else (c ∷ (t ++ m))) ≡ after_hashes m
-    go true rest h = rest h
-    go false rest h = absurd (false≢true h)
+hashes_to (c ∷ t) m h = grind (arith, hashes_to t m)
 
 -- a `'` after the name makes it a char
 quoted_name : (t : List ℕ) → is_empty (after_name t) ≡ true → begins_lifetime (t ++ 39 ∷ []) ≡ false
 quoted_name [] h = and_left _ _ (is_xid_start-ascii 39 (omega arith))
-quoted_name (c ∷ t) h = go (starts_identifier c) h
-  where
-    go : (v : Bool) → is_empty (if v then after_run t else (c ∷ t)) ≡ true →
-        (v && not (first_passes is_single_quote (if v then after_run (t ++ 39 ∷ []) else (c ∷ (t ++ 39 ∷ []))))) ≡ false
-    go true h = ap (λ (l : List ℕ). not (first_passes is_single_quote l)) (run_to t (39 ∷ []) h ∙ if_false (is_xid_continue 39) [] (39 ∷ []) quote_stops)
-    go false h = refl
+quoted_name (c ∷ t) h = grind (arith, run_whole t (39 ∷ []), quote_stops)
 
 raw_later : (t : List ℕ) → is_empty (after_hashes t) ≡ true → opens_raw (t ++ 34 ∷ []) ≡ true
 raw_later t h = ap (first_passes is_quote) (hashes_to t (34 ∷ []) h)
 
-lifetime_later : (t : List ℕ) → is_empty (after_name t) ≡ true → OpensLater (39 ∷ t)
-lifetime_later t h = (39 ∷ [], refl, rw (quoted_name t h) refl)
-
-hashes_later : (t : List ℕ) → is_empty (after_hashes t) ≡ true → OpensLater (114 ∷ t)
-hashes_later t h = (34 ∷ [], refl, rw (raw_later t h) refl)
-
 bytes_later : (t : List ℕ) → is_open_prefix t ≡ true → opens_bytes (t ++ 34 ∷ []) ≡ true
-bytes_later [] h = refl
-bytes_later (c ∷ t) h =
-    let both = and_parts (c == 114) (is_empty (after_hashes t)) h in
-    ap (λ (n : ℕ). opens_bytes (n ∷ (t ++ 34 ∷ []))) (eqb-true c 114 both.0) ∙ raw_later t both.1
+bytes_later t h = grind (arith, nat_tests, raw_later)
 
 c_later : (t : List ℕ) → is_open_prefix t ≡ true → opens_c_string (t ++ 34 ∷ []) ≡ true
-c_later [] h = refl
-c_later (c ∷ t) h =
-    let both = and_parts (c == 114) (is_empty (after_hashes t)) h in
-    ap (λ (n : ℕ). opens_c_string (n ∷ (t ++ 34 ∷ []))) (eqb-true c 114 both.0) ∙ raw_later t both.1
+c_later t h = grind (arith, nat_tests, raw_later)
+
+-- a quote of one of the two kinds opens it
+quotes_open : (c : ℕ) (t : List ℕ) → is_open_front (c ∷ t) ≡ true → (opens (c ∷ (t ++ 39 ∷ [])) ≡ true) ⊎ (opens (c ∷ (t ++ 34 ∷ [])) ≡ true)
+quotes_open c t h = grind (arith, nat_tests, quoted_name t, raw_later t, bytes_later t, c_later t)
 
 pub front_later : (t : List ℕ) → is_open_front t ≡ true → OpensLater t
 front_later [] h = absurd (false≢true h)
-front_later (c ∷ t) h = go (c == 39) (c == 114) (c == 98) (c == 99) refl refl refl refl h
-  where
-    at : (k : ℕ) → (c == k) ≡ true → OpensLater (k ∷ t) → OpensLater (c ∷ t)
-    at k e later = subst (λ (n : ℕ). OpensLater (n ∷ t)) (sym (eqb-true c k e)) later
-
-    prefixed : (b w : Bool) → (c == 98) ≡ b → (c == 99) ≡ w → ((b || w) && is_open_prefix t) ≡ true → OpensLater (c ∷ t)
-    prefixed true w e f h = at 98 e (34 ∷ [], refl, rw (bytes_later t h) refl)
-    prefixed false true e f h = at 99 f (34 ∷ [], refl, rw (c_later t h) refl)
-    prefixed false false e f h = absurd (false≢true h)
-
-    raw : (r b w : Bool) → (c == 114) ≡ r → (c == 98) ≡ b → (c == 99) ≡ w → ((r && is_empty (after_hashes t)) || ((b || w) && is_open_prefix t)) ≡ true → OpensLater (c ∷ t)
-    raw false b w e f g h = prefixed b w f g h
-    raw true b w e f g h = hashed (is_empty (after_hashes t)) refl h
-      where
-        hashed : (v : Bool) → is_empty (after_hashes t) ≡ v → (v || ((b || w) && is_open_prefix t)) ≡ true → OpensLater (c ∷ t)
-        hashed true all h = at 114 e (hashes_later t all)
-        hashed false all h = prefixed b w f g h
-
-    go : (q r b w : Bool) → (c == 39) ≡ q → (c == 114) ≡ r → (c == 98) ≡ b → (c == 99) ≡ w →
-        ((q && is_empty (after_name t)) || (r && is_empty (after_hashes t)) || ((b || w) && is_open_prefix t)) ≡ true → OpensLater (c ∷ t)
-    go false r b w d e f g h = raw r b w e f g h
-    go true r b w d e f g h = named (is_empty (after_name t)) refl h
-      where
-        named : (v : Bool) → is_empty (after_name t) ≡ v → (v || (r && is_empty (after_hashes t)) || ((b || w) && is_open_prefix t)) ≡ true → OpensLater (c ∷ t)
-        named true all h = at 39 d (lifetime_later t all)
-        named false all h = raw r b w e f g h
+front_later (c ∷ t) h = elim (quotes_open c t h) [
+  | inl single ↦ (39 ∷ [], refl, single)
+  | inr double ↦ (34 ∷ [], refl, double)
+]
 
 -- if neither, none begins later
 
-or_false : (a b : Bool) → (a || b) ≡ false → (a ≡ false) × (b ≡ false)
-or_false true b h = absurd (true≢false h)
-or_false false b h = (refl, h)
-
-other_part : (a b : Bool) → a ≡ true → (a && b) ≡ false → b ≡ false
-other_part true b e h = h
-other_part false b e h = absurd (false≢true e)
-
-run_whole : (t m : List ℕ) → is_empty (after_run t) ≡ true → first_run (t ++ m) ≡ t ++ first_run m
-run_whole [] m h = refl
-run_whole (c ∷ t) m h = go (is_xid_continue c) (run_whole t m) h
-  where
-    go : (v : Bool) → (is_empty (after_run t) ≡ true → first_run (t ++ m) ≡ t ++ first_run m) → is_empty (if v then after_run t else (c ∷ t)) ≡ true → (if v then c ∷ first_run (t ++ m) else []) ≡ c ∷ (t ++ first_run m)
-    go true rest h = ap (λ (l : List ℕ). c ∷ l) (rest h)
-    go false rest h = absurd (false≢true h)
-
 name_whole : (c : ℕ) (t m : List ℕ) → is_empty (after_name (c ∷ t)) ≡ true → first_name (c ∷ (t ++ m)) ≡ c ∷ (t ++ first_run m)
-name_whole c t m h = go (starts_identifier c) h
-  where
-    go : (v : Bool) → is_empty (if v then after_run t else (c ∷ t)) ≡ true → (if v then c ∷ first_run (t ++ m) else []) ≡ c ∷ (t ++ first_run m)
-    go true h = ap (λ (l : List ℕ). c ∷ l) (run_whole t m h)
-    go false h = absurd (false≢true h)
+name_whole c t m h = grind (arith, run_whole t m)
 
 bool_is_text : (b : Bool) → list_all is_scalar (bool_text b) ≡ true
-bool_is_text true = refl
-bool_is_text false = refl
+bool_is_text b = grind arith
 
 begins_bool : (t z : List ℕ) → is_bool (t ++ z) ≡ true → Begins literal_parse t
 begins_bool t z h =
@@ -337,73 +236,53 @@ begins_bool t z h =
     let text : list_all is_scalar (t ++ z) ≡ true = ap (list_all is_scalar) (sym bool.1) ∙ bool_is_text bool.0 in
     (z, a_bool bool.0, (and_parts (list_all is_scalar t) (list_all is_scalar z) (sym (list_all-append is_scalar t z) ∙ text)).1, bool.1)
 
-prefix_opened : (d : ℕ) (u m : List ℕ) → ((d == 114) && is_empty (after_hashes u)) ≡ false → ((d == 114) && opens_raw (u ++ m)) ≡ true → ((d == 114) && opens_raw u) ≡ true
-prefix_opened d u m h g = go (d == 114) h g
-  where
-    go : (v : Bool) → (v && is_empty (after_hashes u)) ≡ false → (v && opens_raw (u ++ m)) ≡ true → (v && opens_raw u) ≡ true
-    go true h g = sym (raw_stays u m h) ∙ g
-    go false h g = g
-
-or_later : (a b d : Bool) → (b ≡ true → d ≡ true) → (a || b) ≡ true → (a || d) ≡ true
-or_later true b d f h = refl
-or_later false b d f h = f h
-
 bytes_opened : (t m : List ℕ) → is_open_prefix t ≡ false → opens_bytes (t ++ m) ≡ true → opens_bytes t ≡ true
-bytes_opened [] m h g = absurd (true≢false h)
-bytes_opened (d ∷ u) m h g =
-    or_later ((d == 39) || (d == 34)) _ _ (prefix_opened d u m h) g
+bytes_opened t m h g = grind (arith, raw_stays)
 
 c_opened : (t m : List ℕ) → is_open_prefix t ≡ false → opens_c_string (t ++ m) ≡ true → opens_c_string t ≡ true
-c_opened [] m h g = absurd (true≢false h)
-c_opened (d ∷ u) m h g = or_later (d == 34) _ _ (prefix_opened d u m h) g
+c_opened t m h g = grind (arith, raw_stays)
+
+single_shorter : (c : ℕ) (t m : List ℕ) → is_open_front (c ∷ t) ≡ false → c ≡ 39 → begins_lifetime (t ++ m) ≡ false → opens (c ∷ t) ≡ true
+single_shorter c t m front is h = grind (arith, nat_tests, lifetime_stays t m)
+
+raw_shorter : (c : ℕ) (t m : List ℕ) → is_open_front (c ∷ t) ≡ false → c ≡ 114 → opens_raw (t ++ m) ≡ true → opens (c ∷ t) ≡ true
+raw_shorter c t m front is h = grind (arith, nat_tests, raw_stays t m)
+
+bytes_shorter : (c : ℕ) (t m : List ℕ) → is_open_front (c ∷ t) ≡ false → c ≡ 98 → opens_bytes (t ++ m) ≡ true → opens (c ∷ t) ≡ true
+bytes_shorter c t m front is h = grind (arith, nat_tests, bytes_opened t m)
+
+c_shorter : (c : ℕ) (t m : List ℕ) → is_open_front (c ∷ t) ≡ false → c ≡ 99 → opens_c_string (t ++ m) ≡ true → opens (c ∷ t) ≡ true
+c_shorter c t m front is h = grind (arith, nat_tests, c_opened t m)
+
+-- the ways in which a literal begins
+abbrev Ways : ℕ → List ℕ → Type 0
+Ways c t =
+    (is_ascii_digit c ≡ true) ⊎ ((c ≡ 34) ⊎ (((c ≡ 39) × (begins_lifetime t ≡ false)) ⊎ (((c ≡ 114) × (opens_raw t ≡ true))
+    ⊎ (((c ≡ 98) × (opens_bytes t ≡ true)) ⊎ (((c ≡ 99) × (opens_c_string t ≡ true)) ⊎ (is_bool (first_name (c ∷ t)) ≡ true))))))
+
+ways : (c : ℕ) (t : List ℕ) → opens (c ∷ t) ≡ true → Ways c t
+ways c t h = grind (arith, nat_tests)
 
 -- unless the name at the front becomes a bool
 pub opens_unless_bool : (c : ℕ) (t m : List ℕ) → opens (c ∷ t) ≡ false → is_open_front (c ∷ t) ≡ false →
     (is_bool (first_name (c ∷ (t ++ m))) ≡ true → is_bool (first_name (c ∷ t)) ≡ true) → opens (c ∷ (t ++ m)) ≡ false
-opens_unless_bool c t m h front bool = go (opens (c ∷ (t ++ m))) refl
+opens_unless_bool c t m h front bool = false_from_ne_true (opens (c ∷ (t ++ m))) (λ longer. true≢false (sym (shorter (ways c (t ++ m) longer)) ∙ h))
   where
-    parts : ((((c == 39) && is_empty (after_name t)) || ((c == 114) && is_empty (after_hashes t))) ≡ false) × ((((c == 98) || (c == 99)) && is_open_prefix t) ≡ false)
-    parts = or_false _ _ front
-
-    others : (((c == 39) && is_empty (after_name t)) ≡ false) × (((c == 114) && is_empty (after_hashes t)) ≡ false)
-    others = or_false _ _ parts.0
-
-    prefixed : ((c == 98) || (c == 99)) ≡ true → is_open_prefix t ≡ false
-    prefixed e = other_part _ _ e parts.1
-
-    single : ((c == 39) && not (begins_lifetime (t ++ m))) ≡ true → ((c == 39) && not (begins_lifetime t)) ≡ true
-    single g =
-        let both = and_parts (c == 39) (not (begins_lifetime (t ++ m))) g in
-        rw both.0 (ap not (sym (lifetime_stays t m (other_part _ _ both.0 others.0))) ∙ both.1)
-
-    bytes : ((c == 98) && opens_bytes (t ++ m)) ≡ true → ((c == 98) && opens_bytes t) ≡ true
-    bytes g =
-        let both = and_parts (c == 98) (opens_bytes (t ++ m)) g in
-        rw both.0 (bytes_opened t m (prefixed (ap (λ (v : Bool). v || (c == 99)) both.0)) both.1)
-
-    c_string : ((c == 99) && opens_c_string (t ++ m)) ≡ true → ((c == 99) && opens_c_string t) ≡ true
-    c_string g =
-        let both = and_parts (c == 99) (opens_c_string (t ++ m)) g in
-        rw both.0 (c_opened t m (prefixed (ap (λ (v : Bool). (c == 98) || v) both.0 ∙ or_true (c == 98))) both.1)
-      where
-        or_true : (a : Bool) → (a || true) ≡ true
-        or_true true = refl
-        or_true false = refl
-
-    shorter : opens (c ∷ (t ++ m)) ≡ true → opens (c ∷ t) ≡ true
-    shorter g = seven (is_ascii_digit c) (c == 34) _ _ _ _ _ _ _ _ _ _ single (prefix_opened c t m others.1) bytes c_string bool g
-
-    go : (v : Bool) → opens (c ∷ (t ++ m)) ≡ v → v ≡ false
-    go true e = absurd (true≢false (sym (shorter e) ∙ h))
-    go false e = refl
+    shorter : Ways c (t ++ m) → opens (c ∷ t) ≡ true
+    shorter (inl is) = rw is refl
+    shorter (inr (inl is)) = rw is refl
+    shorter (inr (inr (inl is))) = single_shorter c t m front is.0 is.1
+    shorter (inr (inr (inr (inl is)))) = raw_shorter c t m front is.0 is.1
+    shorter (inr (inr (inr (inr (inl is))))) = bytes_shorter c t m front is.0 is.1
+    shorter (inr (inr (inr (inr (inr (inl is)))))) = c_shorter c t m front is.0 is.1
+    shorter (inr (inr (inr (inr (inr (inr is)))))) = or_right _ _ (bool is)
 
 pub opens_never : (t : List ℕ) → opens t ≡ false → (Begins literal_parse t → ⊥) → is_open_front t ≡ false → OpensNever t
 opens_never [] h absent front m text = absurd (absent (bool_text true, a_bool true, refl, refl))
 opens_never (c ∷ t) h absent front m text = opens_unless_bool c t m h front bool
   where
     bool : is_bool (first_name (c ∷ (t ++ m))) ≡ true → is_bool (first_name (c ∷ t)) ≡ true
-    bool g = by (is_empty (after_name (c ∷ t))) refl
-      where
-        by : (v : Bool) → is_empty (after_name (c ∷ t)) ≡ v → is_bool (first_name (c ∷ t)) ≡ true
-        by true e = absurd (absent (begins_bool (c ∷ t) (first_run m) (ap is_bool (sym (name_whole c t m e)) ∙ g)))
-        by false e = ap is_bool (sym (name_kept (c ∷ t) m e)) ∙ g
+    bool g = elim (cases_Bool (is_empty (after_name (c ∷ t)))) [
+      | inl e ↦ absurd (absent (begins_bool (c ∷ t) (first_run m) (ap is_bool (sym (name_whole c t m e)) ∙ g)))
+      | inr e ↦ ap is_bool (sym (name_kept (c ∷ t) m e)) ∙ g
+    ]

@@ -1,9 +1,9 @@
 -- The steps by which what was meant as a literal is passed over.
-use Rattle.std.proofs.Common.{◌≡◌, ℕ, zero, suc, ◌+◌, Bool, true, false, cond, not, ◌&&◌, ltb, List, [], ◌∷◌, ◌++◌, take, drop, length, Option, Some, None, refl, sym, ap, subst, ◌∙◌, arith}
+use Rattle.std.proofs.Common.{◌≡◌, ℕ, zero, suc, ◌+◌, Bool, true, false, not, ◌&&◌, ltb, List, [], ◌∷◌, ◌++◌, take, drop, length, Option, Some, None, refl, sym, ap, subst, ◌∙◌, inl, inr, arith}
 use Rattle.std.specs.Prelude.{◌==◌, encode_utf8, if◌then◌else◌}
 use Rattle.std.specs.List.{list_all, prefix_len, after_first}
 use Rattle.std.specs.Str.{chars, IsUtf8}
-use Rattle.std.proofs.lemmas.Bool.{and_parts, and_right, eqb-true, true≢false, false≢true}
+use Rattle.std.proofs.lemmas.Bool.{cases_Bool, and_parts}
 use Rattle.std.proofs.lemmas.Bool.Decides.{nat_tests}
 use Rattle.std.proofs.lemmas.List.{drop_at}
 use Rattle.std.proofs.lemmas.Str.{encode_ascii}
@@ -12,7 +12,7 @@ use Rattle.litrs_base.proofs.Chars.{OnlyAscii, IsAsciiFront, begins_with-chars, 
 use Rattle.litrs_base.proofs.ListTests.{if_true, if_false}
 use Rattle.litrs_grammar.specs.Float.{FloatParts, float_text, fraction_text, is_decimal_char, is_period, is_sign, sign_len}
 use Rattle.litrs_grammar.specs.Integer.{is_e}
-use Rattle.litrs_grammar.specs.Raw.{is_quote, is_hash, hashes, raw_closing, length_before}
+use Rattle.litrs_grammar.specs.Raw.{is_quote, is_hash, hashes, raw_closing}
 use Rattle.litrs_grammar.proofs.FloatCuts.{IsCut, cut_of, cut_of_text, after_decimals, letter_period, is_exponent_front, fraction_passes, exponent_stops}
 use Rattle.litrs_grammar.proofs.Laws.Integer.{prefix_len_front}
 use Rattle.litrs_grammar.proofs.RawCuts.{length-hashes}
@@ -22,29 +22,20 @@ use Rattle.litrs_prefix.specs.Meant.{Symbol, lone, escaped, symbols, symbols_tex
 -- closings
 
 pub closing_here : (n : ℕ) (t : List ℕ) → begins_with (raw_closing n) t ≡ true → after_closing n t ≡ drop (1 + n) t
-closing_here n [] h = absurd (false≢true h)
-closing_here n (c ∷ t) h =
-    let none : 0 + (1 + n) ≡ 1 + n = omega arith in
-    ap (λ (v : Bool). drop (cond v 0 (1 + length_before (raw_closing n) t) + (1 + n)) (c ∷ t)) h ∙ ap (λ (k : ℕ). drop k (c ∷ t)) none
+closing_here n t h = grind arith
 
 pub closing_later : (n c : ℕ) (t : List ℕ) → begins_with (raw_closing n) (c ∷ t) ≡ false → after_closing n (c ∷ t) ≡ after_closing n t
-closing_later n c t h =
-    let k : ℕ = length_before (raw_closing n) t in
-    let one : 1 + k + (1 + n) ≡ suc (k + (1 + n)) = omega arith in
-    ap (λ (v : Bool). drop (cond v 0 (1 + k) + (1 + n)) (c ∷ t)) h ∙ ap (λ (j : ℕ). drop j (c ∷ t)) one
-
-other_side : (b v : Bool) → not b ≡ v → b ≡ not v
-other_side true v h = ap not h
-other_side false v h = ap not h
+closing_later n c t h = grind arith
 
 -- the hashes after a quote, in bytes
 pub quote_hashes : (n : ℕ) (bytes rest after : List ℕ) (c : ℕ) (v : Bool) → bytes ≡ rest → rest ≡ encode_utf8 c ++ after → c ≡ 34 →
     (first_passes is_quote bytes && not (begins_with (raw_closing n) bytes)) ≡ v → begins_with (hashes n) after ≡ not v
 quote_hashes n bytes rest after c v same is quote inner =
     let whole : bytes ≡ 34 ∷ after = same ∙ (is ∙ ap (λ (l : List ℕ). l ++ after) (ap encode_utf8 quote ∙ encode_ascii 34 (omega arith))) in
-    other_side (begins_with (hashes n) after) v (subst (λ (l : List ℕ). (first_passes is_quote l && not (begins_with (raw_closing n) l)) ≡ v) whole inner)
+    let inner : not (begins_with (hashes n) after) ≡ v = subst (λ (l : List ℕ). (first_passes is_quote l && not (begins_with (raw_closing n) l)) ≡ v) whole inner in
+    grind arith
 
-hashes_low : (n : ℕ) → list_all (λ c. ltb c 128) (hashes n) ≡ true
+pub hashes_low : (n : ℕ) → list_all (λ c. ltb c 128) (hashes n) ≡ true
 hashes_low zero = refl
 hashes_low (suc n) = hashes_low n
 
@@ -59,66 +50,44 @@ hash_is_ascii c high = grind (arith, nat_tests)
 
 -- quotes
 
-first_here : {A : Type 0} (p : A → Bool) (x : A) (xs : List A) → p x ≡ true → after_first p (x ∷ xs) ≡ xs
-first_here p x xs h = ap (λ (v : Bool). drop (cond (not v) (1 + prefix_len (λ y. not (p y)) xs) 0 + 1) (x ∷ xs)) h
-
-first_later : {A : Type 0} (p : A → Bool) (x : A) (xs : List A) → p x ≡ false → after_first p (x ∷ xs) ≡ after_first p xs
-first_later p x xs h =
-    let k : ℕ = prefix_len (λ y. not (p y)) xs in
-    let one : 1 + k + 1 ≡ suc (k + 1) = omega arith in
-    ap (λ (v : Bool). drop (cond (not v) (1 + k) 0 + 1) (x ∷ xs)) h ∙ ap (λ (j : ℕ). drop j (x ∷ xs)) one
-
-cut_text : (v : Bool) (c d : ℕ) (t : List ℕ) (s : List Symbol) → (c == 92) ≡ v → symbols_text (symbols t) ≡ t → symbols_text s ≡ d ∷ t →
-    symbols_text (if v then escaped d ∷ symbols t else lone c ∷ s) ≡ c ∷ d ∷ t
-cut_text true c d t s is after rest = λ i. sym (eqb-true c 92 is) i ∷ d ∷ after i
-cut_text false c d t s is after rest = ap (λ (l : List ℕ). c ∷ l) rest
-
 -- the symbols of a text spell it
 spelt : (t : List ℕ) → symbols_text (symbols t) ≡ t
 spelt [] = refl
 spelt (c ∷ []) = refl
-spelt (c ∷ d ∷ t) = cut_text (c == 92) c d t (symbols (d ∷ t)) refl (spelt t) (spelt (d ∷ t))
+spelt (c ∷ d ∷ t) = grind (arith, nat_tests, spelt t, spelt (d ∷ t))
 
-quote_slash : (quote c : ℕ) → (quote == 92) ≡ false → (c == quote) ≡ true → (c == 92) ≡ false
-quote_slash quote c other is = ap (λ (k : ℕ). k == 92) (eqb-true c quote is) ∙ other
+-- the steps over a symbol
+lone_step : (quote c : ℕ) (s : List Symbol) → symbols_text (after_first (is_lone quote) (lone c ∷ s)) ≡ (if c == quote then symbols_text s else symbols_text (after_first (is_lone quote) s))
+lone_step quote c s = grind arith
 
--- the step over a symbol
-step : (q s : Bool) (quote c d : ℕ) (t : List ℕ) → (quote == 92) ≡ false → (c == quote) ≡ q → (c == 92) ≡ s →
-    past_quote quote false t ≡ after_quote quote t → past_quote quote false (d ∷ t) ≡ after_quote quote (d ∷ t) →
-    (if q && true then d ∷ t else past_quote quote (s && true) (d ∷ t)) ≡ symbols_text (after_first (is_lone quote) (if s then escaped d ∷ symbols t else lone c ∷ symbols (d ∷ t)))
-step true true quote c d t other is slash after rest = absurd (true≢false (sym slash ∙ quote_slash quote c other is))
-step true false quote c d t other is slash after rest =
-    sym (ap symbols_text (first_here (is_lone quote) (lone c) (symbols (d ∷ t)) is) ∙ spelt (d ∷ t))
-step false true quote c d t other is slash after rest =
-    if_false ((d == quote) && false) t (past_quote quote ((d == 92) && false) t) (and_right (d == quote) false refl)
-    ∙ (ap (λ (e : Bool). past_quote quote e t) (and_right (d == 92) false refl)
-    ∙ (after ∙ sym (ap symbols_text (first_later (is_lone quote) (escaped d) (symbols t) refl))))
-step false false quote c d t other is slash after rest =
-    rest ∙ sym (ap symbols_text (first_later (is_lone quote) (lone c) (symbols (d ∷ t)) is))
+escaped_step : (quote d : ℕ) (s : List Symbol) → symbols_text (after_first (is_lone quote) (escaped d ∷ s)) ≡ symbols_text (after_first (is_lone quote) s)
+escaped_step quote d s = grind arith
 
-last_symbol : (q : Bool) (quote c : ℕ) (x : List ℕ) → x ≡ [] → (c == quote) ≡ q → (if q && true then [] else x) ≡ symbols_text (after_first (is_lone quote) (lone c ∷ []))
-last_symbol true quote c x none is = sym (ap symbols_text (first_here (is_lone quote) (lone c) [] is))
-last_symbol false quote c x none is = none ∙ sym (ap symbols_text (first_later (is_lone quote) (lone c) [] is))
+escape_passed : (quote c d : ℕ) (t : List ℕ) → (quote == 92) ≡ false → (c == 92) ≡ true → past_quote quote false (c ∷ d ∷ t) ≡ past_quote quote false t
+escape_passed quote c d t other slash = grind (arith, nat_tests)
+
+plain_passed : (quote c d : ℕ) (t a b : List ℕ) → symbols_text (symbols (d ∷ t)) ≡ d ∷ t → past_quote quote false (d ∷ t) ≡ a → (if c == quote then symbols_text (symbols (d ∷ t)) else a) ≡ b →
+    (c == 92) ≡ false → past_quote quote false (c ∷ d ∷ t) ≡ b
+plain_passed quote c d t a b whole rest is plain = rw (plain, rest) (grind arith)
+
+last_symbol : (quote c : ℕ) → past_quote quote false (c ∷ []) ≡ after_quote quote (c ∷ [])
+last_symbol quote c = grind arith
 
 pub past_quote_is : (quote : ℕ) → (quote == 92) ≡ false → (t : List ℕ) → past_quote quote false t ≡ after_quote quote t
 past_quote_is quote other [] = refl
-past_quote_is quote other (c ∷ []) = last_symbol (c == quote) quote c (past_quote quote ((c == 92) && true) []) refl refl
-past_quote_is quote other (c ∷ d ∷ t) =
-    step (c == quote) (c == 92) quote c d t other refl refl (past_quote_is quote other t) (past_quote_is quote other (d ∷ t))
+past_quote_is quote other (c ∷ []) = last_symbol quote c
+past_quote_is quote other (c ∷ d ∷ t) = elim (cases_Bool (c == 92)) [
+  | inl slash ↦ escape_passed quote c d t other slash ∙ (past_quote_is quote other t ∙ sym (rw slash (escaped_step quote d (symbols t))))
+  | inr plain ↦ plain_passed quote c d t _ _ (spelt (d ∷ t)) (past_quote_is quote other (d ∷ t)) (sym (rw plain (lone_step quote c (symbols (d ∷ t))))) plain
+]
 
 -- lines
 
-abbrev is_line_feed : ℕ → Bool
-is_line_feed c = c == 10
-
 line_ends : (c : ℕ) (t : List ℕ) → (c == 10) ≡ true → first_line (c ∷ t) ≡ []
-line_ends c t h = ap (λ (v : Bool). take (cond (not v) (1 + prefix_len (λ y. not (is_line_feed y)) t) 0) (c ∷ t)) h
+line_ends c t h = grind arith
 
 line_goes_on : (c : ℕ) (t : List ℕ) → (c == 10) ≡ false → first_line (c ∷ t) ≡ c ∷ first_line t
-line_goes_on c t h =
-    let k : ℕ = prefix_len (λ y. not (is_line_feed y)) t in
-    let one : 1 + k ≡ suc k = omega arith in
-    ap (λ (v : Bool). take (cond (not v) (1 + k) 0) (c ∷ t)) h ∙ ap (λ (j : ℕ). take j (c ∷ t)) one
+line_goes_on c t h = grind arith
 
 take_drop_length : (n : ℕ) (t : List ℕ) → take n t ++ drop (length (take n t)) t ≡ t
 take_drop_length zero t = refl
@@ -126,26 +95,22 @@ take_drop_length (suc n) [] = refl
 take_drop_length (suc n) (c ∷ t) = ap (λ (l : List ℕ). c ∷ l) (take_drop_length n t)
 
 line_spelt : (t : List ℕ) → first_line t ++ drop (length (first_line t)) t ≡ t
-line_spelt t = take_drop_length (prefix_len (λ y. not (is_line_feed y)) t) t
+line_spelt t = take_drop_length (prefix_len (λ y. not (y == 10)) t) t
 
 -- within the line, and after it
 abbrev in_line : Bool → List ℕ → List ℕ → List ℕ
 in_line e line t = past_quote 39 e line ++ drop (length line) t
 
-line_step : (q : Bool) (e : Bool) (c : ℕ) (t : List ℕ) → past_single_quote e t ≡ in_line e (first_line t) t →
-    (if q then t else past_single_quote e t) ≡ (if q then first_line t else past_quote 39 e (first_line t)) ++ drop (length (first_line t)) t
-line_step true e c t rest = sym (line_spelt t)
-line_step false e c t rest = rest
-
-line_case : (n e : Bool) (c : ℕ) (t : List ℕ) → (c == 10) ≡ n → past_single_quote ((c == 92) && not e) t ≡ in_line ((c == 92) && not e) (first_line t) t →
-    (if n then c ∷ t else if (c == 39) && not e then t else past_single_quote ((c == 92) && not e) t) ≡ in_line e (first_line (c ∷ t)) (c ∷ t)
-line_case true e c t h rest = sym (ap (λ (line : List ℕ). in_line e line (c ∷ t)) (line_ends c t h))
-line_case false e c t h rest =
-    line_step ((c == 39) && not e) ((c == 92) && not e) c t rest ∙ sym (ap (λ (line : List ℕ). in_line e line (c ∷ t)) (line_goes_on c t h))
+line_case : (e : Bool) (c : ℕ) (t : List ℕ) → first_line t ++ drop (length (first_line t)) t ≡ t → past_single_quote ((c == 92) && not e) t ≡ in_line ((c == 92) && not e) (first_line t) t →
+    past_single_quote e (c ∷ t) ≡ in_line e (first_line (c ∷ t)) (c ∷ t)
+line_case e c t whole rest = elim (cases_Bool (c == 10)) [
+  | inl h ↦ rw (line_ends c t h, h) refl
+  | inr h ↦ rw (line_goes_on c t h, h) (grind arith)
+]
 
 past_line_is : (e : Bool) (t : List ℕ) → past_single_quote e t ≡ in_line e (first_line t) t
 past_line_is e [] = refl
-past_line_is e (c ∷ t) = line_case (c == 10) e c t refl (past_line_is ((c == 92) && not e) t)
+past_line_is e (c ∷ t) = line_case e c t (line_spelt t) (past_line_is ((c == 92) && not e) t)
 
 pub past_single_quote_is : (t : List ℕ) → past_single_quote false t ≡ after_single_quote t
 past_single_quote_is t = past_line_is false t ∙ ap (λ (l : List ℕ). l ++ drop (length (first_line t)) t) (past_quote_is 39 refl (first_line t))
@@ -156,8 +121,7 @@ pub digits_passed : (f x : List ℕ) → list_all is_decimal_char f ≡ true →
 digits_passed f x all stop = drop_at f x (prefix_len is_decimal_char (f ++ x)) (sym (prefix_len_front is_decimal_char f x all stop))
 
 fraction_none : (p x : List ℕ) → is_exponent_front p ≡ true → (p ≡ [] → first_passes is_period x ≡ false) → after_fraction (p ++ x) ≡ p ++ x
-fraction_none [] [] front none = refl
-fraction_none [] (c ∷ x) front none = if_false (is_period c) (after_digits x) (c ∷ x) (none refl)
+fraction_none [] x front none = (let h = none refl in grind arith)
 fraction_none (c ∷ p) x front none = if_false (is_period c) (after_digits (p ++ x)) (c ∷ (p ++ x)) (letter_period c (and_parts _ _ front).0)
 
 fraction_passed : (f : Option (List ℕ)) (p x : List ℕ) → fraction_passes f ≡ true → is_exponent_front p ≡ true → first_passes is_decimal_char x ≡ false →
@@ -165,21 +129,15 @@ fraction_passed : (f : Option (List ℕ)) (p x : List ℕ) → fraction_passes f
 fraction_passed None p x passes front stop none = fraction_none p x front (none refl)
 fraction_passed (Some f) p x passes front stop none = digits_passed f (p ++ x) passes (exponent_stops p x front stop)
 
-sign_passed : (s : ℕ) (ds x : List ℕ) (v : Bool) → is_sign s ≡ v → list_all is_decimal_char (drop (if v then 1 else 0) (s ∷ ds)) ≡ true → first_passes is_decimal_char x ≡ false →
-    after_digits (if v then ds ++ x else (s ∷ (ds ++ x))) ≡ x
-sign_passed s ds x true is all stop = digits_passed ds x all stop
-sign_passed s ds x false is all stop = digits_passed (s ∷ ds) x all stop
-
 number_passed : (cs x : List ℕ) → list_all is_decimal_char (drop (sign_len cs) cs) ≡ true → first_passes is_decimal_char x ≡ false → (cs ≡ [] → first_passes is_sign x ≡ false) →
     after_digits (after_sign (cs ++ x)) ≡ x
 number_passed [] [] all stop none = refl
 number_passed [] (d ∷ x) all stop none = ap after_digits (if_false (is_sign d) x (d ∷ x) (none refl)) ∙ digits_passed [] (d ∷ x) refl stop
-number_passed (s ∷ ds) x all stop none = sign_passed s ds x (is_sign s) refl all stop
+number_passed (s ∷ ds) x all stop none = grind (arith, digits_passed ds x, digits_passed (s ∷ ds) x)
 
 exponent_passed : (p x : List ℕ) → is_exponent_front p ≡ true → first_passes is_decimal_char x ≡ false → (p ≡ [] → first_passes is_e x ≡ false) →
     ((c : ℕ) → p ≡ c ∷ [] → first_passes is_sign x ≡ false) → after_exponent (p ++ x) ≡ x
-exponent_passed [] [] front stop none sign = refl
-exponent_passed [] (c ∷ x) front stop none sign = if_false (is_e c) (after_digits (after_sign x)) (c ∷ x) (none refl)
+exponent_passed [] x front stop none sign = (let h = none refl in grind arith)
 exponent_passed (c ∷ cs) x front stop none sign =
     let parts = and_parts (is_e c) _ front in
     if_true (is_e c) (after_digits (after_sign (cs ++ x))) (c ∷ (cs ++ x)) parts.0

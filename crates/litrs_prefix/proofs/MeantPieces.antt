@@ -1,23 +1,21 @@
 -- The pieces at the front of a text, from what opens on, one character after the other.
-use Rattle.std.proofs.Common.{◌≡◌, ◌⊎◌, inl, inr, ℕ, List, [], ◌∷◌, ◌++◌, refl, sym, ap, subst, ◌∙◌, append_assoc, append-nil}
+use Rattle.std.proofs.Common.{◌≡◌, inl, inr, ℕ, List, [], ◌∷◌, ◌++◌, refl, sym, ap, subst, ◌∙◌, append_assoc, append-nil}
 use Rattle.std.proofs.lemmas.List.{append_cancel_left, append_cancel_right}
 use Rattle.litrs_base.specs.Derivations.{HasNoDerivation}
 use Rattle.litrs_base.specs.Refusal.{refusal_of}
 use Rattle.litrs_base.specs.Text.{byte_len}
 use Rattle.litrs_grammar.specs.Literal.{Derivation, IsLiteral, literal_parse}
 use Rattle.litrs_grammar.specs.LiteralRefusals.{IsRefusal}
+use Rattle.litrs_grammar.proofs.LongerTexts.Suffix.{front_of}
 use Rattle.litrs_prefix.specs.Laws.{MalformedAreUnique}
 use Rattle.litrs_prefix.specs.Meant.{after_opened, IsMeant}
 
 abbrev pub Holds : (List ℕ → Type 0) → List ℕ → Type 0
 Holds P more = (x : List ℕ) (c : ℕ) (y : List ℕ) → x ++ c ∷ y ≡ more → P x
 
-no_cons : (c : ℕ) (y : List ℕ) → c ∷ y ≡ [] → ⊥
-no_cons c y h = cc
-
 no_end : (x : List ℕ) (c : ℕ) (y : List ℕ) → x ++ c ∷ y ≡ [] → ⊥
-no_end [] c y h = no_cons c y h
-no_end (a ∷ x) c y h = no_cons a (x ++ c ∷ y) h
+no_end [] c y h = cc
+no_end (a ∷ x) c y h = cc
 
 -- facts about each shorter one and about this
 one_more : (P : List ℕ → Type 0) (more : List ℕ) (c : ℕ) → P more → Holds P more → Holds P (more ++ c ∷ [])
@@ -49,20 +47,6 @@ meant_longer t front c d is literal = record {
       (d, subst (λ (l : List ℕ). IsLiteral l d) (sym is.longer) literal) is.shortest;
 }
 
--- two fronts of a text
-fronts : (a b x y : List ℕ) → a ++ x ≡ b ++ y → (a ≡ b) ⊎ ((c : ℕ) × (z : List ℕ) × (a ++ c ∷ z ≡ b)) ⊎ ((c : ℕ) × (z : List ℕ) × (b ++ c ∷ z ≡ a))
-fronts [] [] x y h = inl refl
-fronts [] (d ∷ b) x y h = inr (inl (d, b, refl))
-fronts (c ∷ a) [] x y h = inr (inr (c, a, refl))
-fronts (c ∷ a) (d ∷ b) x y h =
-    let head : c ≡ d = cc in
-    let tail : a ++ x ≡ b ++ y = cc in
-    elim (fronts a b x y tail) [
-      | inl same ↦ inl (λ i. head i ∷ same i)
-      | inr (inl (e, z, is)) ↦ inr (inl (e, z, λ i. head i ∷ is i))
-      | inr (inr (e, z, is)) ↦ inr (inr (e, z, λ i. sym head i ∷ is i))
-    ]
-
 -- the malformed prefix is one piece alone
 pub meant_unique : (t f g r u : List ℕ) → IsMeant t f → IsMeant t g → f ++ r ≡ t → g ++ u ≡ t → HasNoDerivation (IsLiteral f) → HasNoDerivation (IsLiteral g) → f ≡ g
 meant_unique t f g r u m n before after none other =
@@ -70,12 +54,12 @@ meant_unique t f g r u m n before after none other =
     let left : m.piece ++ (m.more ++ r) ≡ t = sym (append_assoc m.piece m.more r) ∙ (ap (λ (l : List ℕ). l ++ r) m.longer ∙ before) in
     let right : n.piece ++ (n.more ++ u) ≡ t = sym (append_assoc n.piece n.more u) ∙ (ap (λ (l : List ℕ). l ++ u) n.longer ∙ after) in
     let rests : m.more ++ r ≡ n.more ++ u = append_cancel_left m.piece _ _ (left ∙ (sym right ∙ ap (λ (l : List ℕ). l ++ (n.more ++ u)) (sym same))) in
-    elim (fronts m.more n.more r u rests) [
-      | inl more ↦ sym m.longer ∙ ((λ i. same i ++ more i) ∙ n.longer)
-      | inr (inl (c, z, is)) ↦ (let literal = n.shortest m.more c z is in
-          absurd (none literal.0 (subst (λ (l : List ℕ). IsLiteral l literal.0) (ap (λ (l : List ℕ). l ++ m.more) (sym same) ∙ m.longer) literal.1)))
-      | inr (inr (c, z, is)) ↦ (let literal = m.shortest n.more c z is in
+    elim (front_of m.more n.more r u rests) [
+      | inl ([], is) ↦ sym m.longer ∙ ((λ i. same i ++ (is ∙ append-nil n.more) i) ∙ n.longer)
+      | inl (c ∷ z, is) ↦ (let literal = m.shortest n.more c z (sym is) in
           absurd (other literal.0 (subst (λ (l : List ℕ). IsLiteral l literal.0) (ap (λ (l : List ℕ). l ++ n.more) same ∙ n.longer) literal.1)))
+      | inr (c, z, is) ↦ (let literal = n.shortest m.more c z (sym is) in
+          absurd (none literal.0 (subst (λ (l : List ℕ). IsLiteral l literal.0) (ap (λ (l : List ℕ). l ++ m.more) (sym same) ∙ m.longer) literal.1)))
     ]
 
 pub malformed_unique : MalformedAreUnique

@@ -1,71 +1,45 @@
 -- Texts that more text may give another literal at the front.
-use Rattle.std.proofs.Common.{◌≡◌, ◌⊎◌, inl, inr, ℕ, Bool, true, false, not, ◌&&◌, List, [], ◌∷◌, ◌++◌, refl, sym, ap, subst, ◌∙◌, append_assoc, arith}
-use Rattle.std.specs.Char.{is_ascii_digit}
+use Rattle.std.proofs.Common.{◌≡◌, ◌⊎◌, inl, inr, ℕ, Bool, true, false, List, [], ◌∷◌, ◌++◌, refl, sym, ap, subst, ◌∙◌, append_assoc, arith}
 use Rattle.std.specs.List.{list_all}
-use Rattle.std.proofs.lemmas.Bool.{and_parts, and_from, eqb-true, true≢false}
+use Rattle.std.proofs.lemmas.Bool.{and_parts, true≢false}
+use Rattle.std.proofs.lemmas.Bool.Decides.{nat_tests}
+use Rattle.std.proofs.lemmas.List.{append_cancel_left, append_cancel_right}
 use Rattle.std.proofs.lemmas.List.Folds.{list_all-append}
 use Rattle.unicode_ident.proofs.IdentLemmas.{is_xid_start-ascii}
 use Rattle.litrs_base.specs.Characters.{is_scalar}
-use Rattle.litrs_base.specs.Text.{IsText, is_empty, first_passes}
-use Rattle.litrs_grammar.specs.Float.{is_period}
+use Rattle.litrs_base.specs.Text.{IsText, is_empty}
 use Rattle.litrs_grammar.specs.Integer.{IntegerParts, IsIntegerOf}
-use Rattle.litrs_grammar.specs.Literal.{Derivation, a_bool, an_integer, a_float, a_char, a_byte, a_string, a_byte_string, a_c_string, IsLiteral, literal_parse, Begins}
+use Rattle.litrs_grammar.specs.Literal.{Derivation, an_integer, IsLiteral, literal_parse, Begins}
 use Rattle.litrs_grammar.specs.Suffix.{starts_identifier}
-use Rattle.litrs_prefix.specs.Prefix.{may_follow, is_of_suffix, ends_suffix, ends_integer, keeps_period, HasPrefix}
+use Rattle.litrs_grammar.proofs.LongerTexts.Suffix.{front_of}
+use Rattle.litrs_prefix.specs.Prefix.{may_follow, HasPrefix}
 use Rattle.litrs_prefix.specs.GoesOn.{IsSettled, PrefixGoesOn, IsIntegerAndPeriod}
 use Rattle.litrs_prefix.proofs.LongerTexts.{whole, stays}
 use Rattle.litrs_prefix.proofs.Unique.{unique}
-
--- Two ways to cut a text: the first part of the one is as long as that of the other, or longer, or
--- shorter by at least one character.
-split : (a b c d : List ℕ) → a ++ b ≡ c ++ d →
-    ((m : List ℕ) × (a ≡ c ++ m) × (m ++ b ≡ d)) ⊎ ((x : ℕ) × (m : List ℕ) × (c ≡ a ++ x ∷ m) × (b ≡ x ∷ (m ++ d)))
-split a b [] d h = inl (a, refl, h)
-split [] b (x ∷ c) d h = inr (x, c, refl, h)
-split (y ∷ a) b (x ∷ c) d h =
-    let head : y ≡ x = cc in
-    let tail : a ++ b ≡ c ++ d = cc in
-    elim (split a b c d tail) [
-      | inl s ↦ (let part : a ≡ c ++ s.0 = s.1 in let same : y ∷ a ≡ x ∷ (c ++ s.0) = cc in inl (s.0, same, s.2))
-      | inr s ↦ (let part : c ≡ a ++ s.0 ∷ s.1 = s.2 in let same : x ∷ c ≡ y ∷ (a ++ s.0 ∷ s.1) = cc in inr (s.0, s.1, same, s.3))
-    ]
 
 -- a first part of a text is one
 text_of : (m b : List ℕ) → IsText (m ++ b) → IsText m
 text_of m b h = (and_parts (list_all is_scalar m) _ (sym (list_all-append is_scalar m b) ∙ h)).0
 
--- a period that may follow by more text alone
-took : (p keeps none : Bool) → not ((p && not keeps) && none) ≡ true → not ((p && true) && none) ≡ false → (p ≡ true) × (none ≡ true)
-took true keeps true h g = (refl, refl)
-took true keeps false h g = cc
-took false keeps none h g = cc
-
-not_after : (a b b' : Bool) → (a && b') ≡ true → (a && b) ≡ false → (b' ≡ true) × (b ≡ false)
-not_after true b b' h g = (h, g)
-not_after false b b' h g = cc
-
 -- a rest that may follow only with more text is a period, after an integer without suffix
+taken_period : (d : IntegerParts) (x : ℕ) (m more : List ℕ) → may_follow (an_integer d) (x ∷ (m ++ more)) ≡ true → may_follow (an_integer d) (x ∷ m) ≡ false →
+    (x ≡ 46) × (m ≡ []) × (is_empty d.suffix ≡ true)
+taken_period d x m more h g = grind (arith, nat_tests)
+
 by_more : (d : Derivation) (x : ℕ) (m more : List ℕ) → may_follow d (x ∷ (m ++ more)) ≡ true → may_follow d (x ∷ m) ≡ false →
     (e : IntegerParts) × (d ≡ an_integer e) × (x ≡ 46) × (m ≡ []) × (is_empty e.suffix ≡ true)
-by_more (a_bool b) x m more h g = absurd (true≢false (sym h ∙ g))
-by_more (a_float d) x m more h g = absurd (true≢false (sym h ∙ g))
-by_more (a_char d) x m more h g = absurd (true≢false (sym h ∙ g))
-by_more (a_byte d) x m more h g = absurd (true≢false (sym h ∙ g))
-by_more (a_string d) x m more h g = absurd (true≢false (sym h ∙ g))
-by_more (a_byte_string d) x m more h g = absurd (true≢false (sym h ∙ g))
-by_more (a_c_string d) x m more h g = absurd (true≢false (sym h ∙ g))
-by_more (an_integer d) x (y ∷ m) more h g = absurd (true≢false (sym h ∙ g))
-by_more (an_integer d) x [] more h g =
-    let outer = not_after _ _ _ h g in
-    let inner = not_after _ _ _ outer.0 outer.1 in
-    let both = took (is_period x) (keeps_period more) (is_empty d.suffix) inner.0 inner.1 in
-    (d, refl, eqb-true x 46 both.0, refl, both.1)
+by_more (an_integer d) x m more h g = let p = taken_period d x m more h g in (d, refl, p.0, p.1, p.2)
+by_more d x m more h g = absurd (true≢false (sym h ∙ g))
 
 -- a longer text with a literal at its front
 goes_on_by : (t more : List ℕ) (d : Derivation) (rest : List ℕ) → (IsSettled t → ⊥) → IsText more → HasPrefix (t ++ more) d rest → Begins literal_parse t ⊎ IsIntegerAndPeriod t
-goes_on_by t more d rest unsettled text at = elim (split at.front rest t more at.spells) [
-  | inl s ↦ inl (s.0, d, text_of s.0 rest (subst (λ (l : List ℕ). IsText l) (sym s.2) text), subst (λ (l : List ℕ). IsLiteral l d) s.1 at.literal)
-  | inr s ↦ go s.0 s.1 s.2 s.3 (may_follow d (s.0 ∷ s.1)) refl
+goes_on_by t more d rest unsettled text at = elim (front_of at.front t rest more at.spells) [
+  | inl (m, is) ↦ (
+      let left = append_cancel_left t (m ++ rest) more (sym (append_assoc t m rest) ∙ (ap (λ (l : List ℕ). l ++ rest) (sym is) ∙ at.spells)) in
+      inl (m, d, text_of m rest (subst (λ (l : List ℕ). IsText l) (sym left) text), subst (λ (l : List ℕ). IsLiteral l d) is at.literal))
+  | inr (x, m, is) ↦ (
+      let left = append_cancel_left at.front rest (x ∷ (m ++ more)) (at.spells ∙ (ap (λ (l : List ℕ). l ++ more) is ∙ append_assoc at.front (x ∷ m) more)) in
+      go x m is left (may_follow d (x ∷ m)) refl)
 ]
   where
     go : (x : ℕ) (m : List ℕ) → t ≡ at.front ++ x ∷ m → rest ≡ x ∷ (m ++ more) → (v : Bool) → may_follow d (x ∷ m) ≡ v → Begins literal_parse t ⊎ IsIntegerAndPeriod t
@@ -78,8 +52,11 @@ goes_on_by t more d rest unsettled text at = elim (split at.front rest t more at
 period_stops : starts_identifier 46 ≡ false
 period_stops = is_xid_start-ascii 46 (omega arith)
 
-after_two : (s : List ℕ) → is_empty s ≡ true → not (first_passes (is_of_suffix (is_empty s)) (46 ∷ 46 ∷ [])) ≡ true
-after_two s h = subst (λ (b : Bool). not (is_of_suffix b 46) ≡ true) (sym h) (ap not period_stops)
+period_pair : (d : IntegerParts) → is_empty d.suffix ≡ true → may_follow (an_integer d) (46 ∷ 46 ∷ []) ≡ true
+period_pair d none = grind (arith, period_stops)
+
+period_alone : (d : IntegerParts) → is_empty d.suffix ≡ true → may_follow (an_integer d) (46 ∷ []) ≡ false
+period_alone d none = grind (arith, period_stops)
 
 -- a literal that a longer text begins is not settled
 begins_unsettled : (t : List ℕ) → Begins literal_parse t → IsSettled t → ⊥
@@ -93,13 +70,8 @@ two_periods front d h none = record {
   front = front;
   spells = sym (append_assoc front (46 ∷ []) (46 ∷ []));
   literal = h;
-  follows = and_from _ _ (after_two d.suffix none) refl;
+  follows = period_pair d none;
 }
-
-last_is : (x : List ℕ) → x ++ 46 ∷ [] ≡ 46 ∷ [] → x ≡ []
-last_is [] h = refl
-last_is (c ∷ []) h = cc
-last_is (c ∷ d ∷ x) h = cc
 
 period_unsettled : (front : List ℕ) (d : IntegerParts) → IsIntegerOf front d → is_empty d.suffix ≡ true → IsSettled (front ++ 46 ∷ []) → ⊥
 period_unsettled front d h none s =
@@ -109,13 +81,10 @@ period_unsettled front d h none s =
     let rests : 46 ∷ 46 ∷ [] ≡ s.1 ∷ (s.2 ++ 46 ∷ []) = both.1 in
     let first : s.1 ≡ 46 = cc in
     let tail : s.2 ++ 46 ∷ [] ≡ 46 ∷ [] = cc in
-    let rest : s.2 ≡ [] = last_is s.2 tail in
+    let rest : s.2 ≡ [] = append_cancel_right s.2 [] (46 ∷ []) tail in
     let at : HasPrefix t (an_integer d) (46 ∷ []) =
     subst (λ (l : List ℕ). HasPrefix t (an_integer d) l) (λ i. first i ∷ rest i) (subst (λ (e : Derivation). HasPrefix t e (s.1 ∷ s.2)) (sym both.0) s.3) in
-    let parts = and_parts (ends_suffix d.suffix (46 ∷ [])) (ends_integer d (46 ∷ [])) at.follows in
-    let number = and_parts (not (first_passes is_ascii_digit (46 ∷ []))) (not (is_empty d.suffix)) parts.1 in
-    let took : not (is_empty d.suffix) ≡ true = number.1 in
-    true≢false (sym took ∙ ap not none)
+    true≢false (sym at.follows ∙ period_alone d none)
 
 pub goes_on_either : (t : List ℕ) → PrefixGoesOn t → Begins literal_parse t ⊎ IsIntegerAndPeriod t
 goes_on_either t h = goes_on_by t h.more h.literal h.rest h.unsettled h.is_text h.found

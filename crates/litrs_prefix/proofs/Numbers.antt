@@ -1,40 +1,33 @@
 -- Numbers, and the rest before which they end.
-use Rattle.std.proofs.Common.{◌≡◌, ℕ, ◌<◌, Bool, true, false, not, ◌&&◌, ◌||◌, List, [], ◌∷◌, ◌++◌, length, drop, Option, Some, None, refl, sym, ap, ◌∙◌, subst, inl, inr, arith, append_assoc}
+use Rattle.std.proofs.Common.{◌≡◌, ℕ, Bool, true, false, not, ◌&&◌, ◌||◌, List, [], ◌∷◌, ◌++◌, length, drop, Option, Some, None, refl, sym, ap, ◌∙◌, subst, arith, append_assoc}
 use Rattle.std.specs.Prelude.{◌==◌}
 use Rattle.std.specs.Char.{is_ascii_digit, is_ascii_alphabetic}
 use Rattle.std.specs.List.{prefix_len, list_all, take_while}
-use Rattle.std.proofs.lemmas.Bool.{and_parts, and_left, and_right, or_from, or_parts, not-true, false≢true, cases_lt}
+use Rattle.std.proofs.lemmas.Bool.{and_parts, and_left, or_left, or_from, not-true, false≢true}
 use Rattle.std.proofs.lemmas.Bool.Decides.{nat_tests}
 use Rattle.std.proofs.lemmas.List.{drop_at}
-use Rattle.unicode_ident.specs.Ident.{is_xid_start}
 use Rattle.unicode_ident.proofs.IdentLemmas.{is_xid_start-ascii}
 use Rattle.litrs_base.specs.declared.integer.IntegerBase.{IntegerBase}
-use Rattle.litrs_base.specs.declared.integer.IntegerBase.TheVariants.{Binary, Octal, Decimal, Hexadecimal}
+use Rattle.litrs_base.specs.declared.integer.IntegerBase.TheVariants.{Decimal}
 use Rattle.litrs_base.specs.Base.{prefix, is_digit_or_underscore}
-use Rattle.litrs_base.specs.Text.{first_passes, begins_with, is_empty}
+use Rattle.litrs_base.specs.Text.{first_passes, is_empty}
 use Rattle.litrs_grammar.specs.Suffix.{starts_identifier, is_suffix}
 use Rattle.litrs_grammar.specs.Integer.{IntegerParts, IsInteger, IsIntegerOf, is_e, has_prefix, base_of, integer_cut}
 use Rattle.litrs_grammar.specs.Float.{FloatParts, IsFloatOf, float_text, fraction_text, is_period, is_exponent, is_float_form, is_decimal_char, is_decimal_literal}
-use Rattle.litrs_grammar.proofs.Laws.Integer.{cut_with, integer_cut-is, take_while_front, prefix_len_front}
+use Rattle.litrs_grammar.proofs.Laws.Integer.{cut_with, integer_cut-is, take_while_front}
 use Rattle.litrs_grammar.proofs.Laws.Float.{float_is_cut, suffix_no_period}
 use Rattle.litrs_grammar.proofs.FloatCuts.{IsCut, after_decimals}
 use Rattle.litrs_prefix.specs.Prefix.{ends_suffix, ends_integer, ends_float, is_bare, gives_period}
-use Rattle.litrs_prefix.proofs.Suffixes.{same_suffix}
+use Rattle.litrs_prefix.proofs.Meant.{digits_passed}
+use Rattle.litrs_prefix.proofs.Names.{same_suffix}
 
 -- a character that does not begin a name is neither a letter nor `_`
 pub no_start : (c : ℕ) → starts_identifier c ≡ false → (is_ascii_alphabetic c || (c == 95)) ≡ false
-no_start c none = elim (cases_lt c 128) [
-  | inl low ↦ (let e : is_xid_start c ≡ is_ascii_alphabetic c = is_xid_start-ascii c low in
-      let s : ((c == 95) || is_ascii_alphabetic c) ≡ false = ap (λ v. (c == 95) || v) (sym e) ∙ none in grind (arith, nat_tests))
-  | inr high ↦ grind (arith, nat_tests)
-]
+no_start c none = grind (arith, nat_tests, is_xid_start-ascii)
 
 -- if it is not a decimal digit either, it is not a digit of any base
 no_digit : (base : IntegerBase) (c : ℕ) → starts_identifier c ≡ false → is_ascii_digit c ≡ false → is_digit_or_underscore base c ≡ false
-no_digit Binary c s d = let n = no_start c s in grind (arith, nat_tests)
-no_digit Octal c s d = let n = no_start c s in grind (arith, nat_tests)
-no_digit Decimal c s d = let n = no_start c s in grind (arith, nat_tests)
-no_digit Hexadecimal c s d = let n = no_start c s in grind (arith, nat_tests)
+no_digit base c s d = let n = no_start c s in grind (arith, nat_tests)
 
 no_letter_e : (c : ℕ) → starts_identifier c ≡ false → is_e c ≡ false
 no_letter_e c s = let n = no_start c s in grind (arith, nat_tests)
@@ -42,24 +35,15 @@ no_letter_e c s = let n = no_start c s in grind (arith, nat_tests)
 -- the digits end before the suffix and the rest
 pub stops : (base : IntegerBase) (x r : List ℕ) → first_passes (is_digit_or_underscore base) x ≡ false → ends_suffix x r ≡ true → first_passes is_ascii_digit r ≡ false →
     first_passes (is_digit_or_underscore base) (x ++ r) ≡ false
-stops base [] [] g e d = refl
-stops base [] (c ∷ r) g e d = no_digit base c (not-true _ e) d
-stops base (c ∷ x) r g e d = g
+stops base x r g e d = grind (arith, no_digit base)
 
 no_e_after : (x r : List ℕ) → first_passes is_e x ≡ false → ends_suffix x r ≡ true → first_passes is_e (x ++ r) ≡ false
-no_e_after [] [] g e = refl
-no_e_after [] (c ∷ r) g e = no_letter_e c (not-true _ e)
-no_e_after (c ∷ x) r g e = g
+no_e_after x r g e = grind (arith, no_letter_e)
 
 -- integers
 
 no_prefix : (m c : ℕ) (t : List ℕ) → starts_identifier c ≡ false → has_prefix (m ∷ c ∷ t) ≡ false
-no_prefix m c t s =
-    let n = no_start c s in
-    let b : (98 == c) ≡ false = grind (arith, nat_tests) in
-    let o : (111 == c) ≡ false = grind (arith, nat_tests) in
-    let x : (120 == c) ≡ false = grind (arith, nat_tests) in
-    or_from _ _ (or_from _ _ (and_right (48 == m) _ (and_left (98 == c) _ b)) (and_right (48 == m) _ (and_left (111 == c) _ o))) (and_right (48 == m) _ (and_left (120 == c) _ x))
+no_prefix m c t s = let n = no_start c s in grind (arith, nat_tests)
 
 prefix_stays : (m x r : List ℕ) → first_passes is_ascii_digit m ≡ true → has_prefix (m ++ x) ≡ false → ends_suffix x r ≡ true → has_prefix (m ++ (x ++ r)) ≡ false
 prefix_stays [] x r d h e = absurd (false≢true d)
@@ -69,17 +53,12 @@ prefix_stays (m ∷ []) [] [] d h e = h
 prefix_stays (m ∷ []) [] (c ∷ r) d h e = no_prefix m c r (not-true _ e)
 
 decimal_base : (t : List ℕ) → has_prefix t ≡ false → base_of t ≡ Decimal
-decimal_base t none =
-    let three = or_parts (begins_with (prefix Binary) t || begins_with (prefix Octal) t) (begins_with (prefix Hexadecimal) t) none in
-    let two = or_parts (begins_with (prefix Binary) t) (begins_with (prefix Octal) t) three.0 in
-    rw (two.0, two.1, three.1) refl
+decimal_base t none = grind arith
 
 base_stays : (base : IntegerBase) (m x r : List ℕ) → IsInteger (record { base = base; main = m; suffix = x }) → ends_suffix x r ≡ true →
     base_of (prefix base ++ (m ++ (x ++ r))) ≡ base
-base_stays Binary m x r g e = refl
-base_stays Octal m x r g e = refl
-base_stays Hexadecimal m x r g e = refl
 base_stays Decimal m x r g e = decimal_base (m ++ (x ++ r)) (prefix_stays m x r (g.decimal_digit refl) (g.decimal_prefix refl) e)
+base_stays base m x r g e = refl
 
 cut_longer : (base : IntegerBase) (m y : List ℕ) → list_all (is_digit_or_underscore base) m ≡ true → first_passes (is_digit_or_underscore base) y ≡ false →
     cut_with base (prefix base ++ (m ++ y)) ≡ record { base = base; main = m; suffix = y }
@@ -92,9 +71,7 @@ cut_longer base m y digits ends =
     ∙ ap (λ (x : List ℕ). record { base = base; main = m; suffix = x }) (drop_at m y (length m) refl))
 
 pub longer_integer : (s r : List ℕ) (d : IntegerParts) → IsIntegerOf s d → s ++ r ≡ prefix d.base ++ (d.main ++ (d.suffix ++ r))
-longer_integer s r d h =
-    ap (λ (l : List ℕ). l ++ r) (sym h.spells)
-    ∙ (append_assoc (prefix d.base) (d.main ++ d.suffix) r ∙ ap (λ (l : List ℕ). prefix d.base ++ l) (append_assoc d.main d.suffix r))
+longer_integer s r d h = ap (λ (l : List ℕ). l ++ r) (sym h.spells) ∙ simp append_assoc
 
 -- a longer text is cut as the integer at its front
 pub cut_stays : (s r : List ℕ) (d : IntegerParts) → IsIntegerOf s d → ends_suffix d.suffix r ≡ true → ends_integer d r ≡ true →
@@ -129,9 +106,7 @@ unfolding is_exponent
 no_exponent h = false≢true h
 
 one_of_form : (f : Option (List ℕ)) (x : List ℕ) (c : ℕ) → is_float_form f (c ∷ []) x ≡ true → ⊥
-one_of_form None x c h = lone_letter c h
-one_of_form (Some []) x c h = false≢true h
-one_of_form (Some (a ∷ f)) x c h = lone_letter c (and_parts _ _ h).1
+one_of_form f x c h = grind (arith, lone_letter c)
 
 abbrev pub with_rest : FloatParts → List ℕ → FloatParts
 with_rest d r = record { integer = d.integer; fraction = d.fraction; exponent = d.exponent; suffix = d.suffix ++ r }
@@ -151,11 +126,7 @@ float_cut_stays d s r h e f =
     }
 
 pub longer_float : (d : FloatParts) (s r : List ℕ) → IsFloatOf s d → s ++ r ≡ float_text (with_rest d r)
-longer_float d s r h =
-    let f = fraction_text d.fraction in
-    ap (λ (l : List ℕ). l ++ r) (sym h.spells)
-    ∙ (append_assoc d.integer (f ++ (d.exponent ++ d.suffix)) r
-    ∙ ap (λ (l : List ℕ). d.integer ++ l) (append_assoc f (d.exponent ++ d.suffix) r ∙ ap (λ (l : List ℕ). f ++ l) (append_assoc d.exponent d.suffix r)))
+longer_float d s r h = ap (λ (l : List ℕ). l ++ r) (sym h.spells) ∙ simp append_assoc
 
 -- The text after the decimal digits decides which of the two it is: `e` or `E`, or a period that an
 -- integer would take.
@@ -166,22 +137,13 @@ abbrev pub has_mark : List ℕ → Bool
 has_mark t = is_mark (drop (prefix_len is_decimal_char t) t)
 
 integer_no_mark : (x r : List ℕ) → is_suffix x ≡ true → first_passes is_e x ≡ false → ends_suffix x r ≡ true → not (gives_period r && is_empty x) ≡ true → is_mark (x ++ r) ≡ false
-integer_no_mark [] r h g e f = or_from _ _ (no_e_after [] r refl e) (given (gives_period r) (not-true _ f))
-  where
-    given : (b : Bool) → (b && true) ≡ false → b ≡ false
-    given true h = h
-    given false h = refl
+integer_no_mark [] r h g e f = let none = no_e_after [] r refl e in grind arith
 integer_no_mark (c ∷ x) r h g e f = or_from _ _ g (and_left (is_period c) _ (suffix_no_period (c ∷ x) h))
 
 base_no_mark : (base : IntegerBase) (m y : List ℕ) → list_all (is_digit_or_underscore base) m ≡ true → first_passes (is_digit_or_underscore base) y ≡ false → is_mark y ≡ false →
     has_mark (prefix base ++ (m ++ y)) ≡ false
-base_no_mark Binary m y digits ends none = refl
-base_no_mark Octal m y digits ends none = refl
-base_no_mark Hexadecimal m y digits ends none = refl
-base_no_mark Decimal m y digits ends none =
-    let p = is_digit_or_underscore Decimal in
-    let after : drop (prefix_len p (m ++ y)) (m ++ y) ≡ y = drop_at m y (prefix_len p (m ++ y)) (sym (prefix_len_front p m y digits ends)) in
-    ap is_mark after ∙ none
+base_no_mark Decimal m y digits ends none = ap is_mark (digits_passed m y digits ends) ∙ none
+base_no_mark base m y digits ends none = refl
 
 pub integer_mark : (s r : List ℕ) (d : IntegerParts) → IsIntegerOf s d → ends_suffix d.suffix r ≡ true → ends_integer d r ≡ true → has_mark (s ++ r) ≡ false
 integer_mark s r d h e f =
@@ -191,27 +153,15 @@ integer_mark s r d h e f =
     (integer_no_mark d.suffix r h.grammar.suffix h.grammar.no_exponent e parts.1)
 
 pub digit_no_name : (c : ℕ) → is_ascii_digit c ≡ true → (is_period c || starts_identifier c) ≡ false
-digit_no_name c h =
-    let low : c < 128 = grind (arith, nat_tests) in
-    let e : is_xid_start c ≡ is_ascii_alphabetic c = is_xid_start-ascii c low in
-    let s : ((c == 95) || is_ascii_alphabetic c) ≡ false = grind (arith, nat_tests) in
-    or_from _ _ (grind (arith, nat_tests)) (ap (λ v. (c == 95) || v) e ∙ s)
+digit_no_name c h = grind (arith, nat_tests, is_xid_start-ascii)
 
 form_mark : (f : Option (List ℕ)) (p x r : List ℕ) → is_float_form f p x ≡ true → ends_suffix x r ≡ true → not (first_passes is_period r && is_bare f) ≡ true →
     is_mark (fraction_text f ++ (p ++ (x ++ r))) ≡ true
 unfolding is_exponent
 form_mark None [] x r h e g = absurd (false≢true h)
-form_mark None (c ∷ p) x r h e g = or_first (is_e c) _ (and_parts _ _ h).0
-  where
-    or_first : (a b : Bool) → a ≡ true → (a || b) ≡ true
-    or_first true b h = refl
-    or_first false b h = absurd (false≢true h)
+form_mark None (c ∷ p) x r h e g = or_left (is_e c) _ (and_parts _ _ h).0
 form_mark (Some (c ∷ f)) p x r h e g = ap not (digit_no_name c (and_parts (first_passes is_ascii_digit (c ∷ f)) (list_all is_decimal_char (c ∷ f)) (and_parts (is_decimal_literal (c ∷ f)) (is_empty p || is_exponent p) h).0).0)
-form_mark (Some []) [] [] r h e g = ap not (or_from _ _ (given (first_passes is_period r) (not-true _ g)) (not-true _ e))
-  where
-    given : (b : Bool) → (b && true) ≡ false → b ≡ false
-    given true h = h
-    given false h = refl
+form_mark (Some []) [] [] r h e g = grind arith
 form_mark (Some []) [] (c ∷ x) r h e g = absurd (false≢true h)
 form_mark (Some []) (c ∷ p) x r h e g = absurd (false≢true h)
 

@@ -1,18 +1,16 @@
 -- A piece at the front of a text that is refused.
-use Rattle.std.proofs.Common.{◌≡◌, ◌⊎◌, ℕ, ◌+◌, ◌<◌, ◌^◌, List, ◌++◌, length, take, drop, None, true, sym, ap, subst, inl, inr, ◌∙◌, append_assoc, length-take, length-drop, [], ◌∷◌, ◌-◌, ◌≤◌, refl, arith}
+use Rattle.std.proofs.Common.{◌≡◌, ◌⊎◌, ℕ, ◌+◌, ◌<◌, ◌^◌, List, ◌++◌, length, take, drop, None, sym, ap, subst, inl, inr, ◌∙◌, append_assoc, append-nil, length-take, [], ◌∷◌, ◌-◌, ◌≤◌, refl, arith}
 use Rattle.std.specs.Str.{chars, IsUtf8, IsCharBoundary}
-use Rattle.std.specs.Prelude.{encode_utf8, encode_utf8_all}
-use Rattle.std.proofs.lemmas.Str.{chars-append, chars-nil, encode_ascii, encodes-chars, encodes-IsAscii, IsUtf8-take}
+use Rattle.std.proofs.lemmas.Str.{chars-append, chars-nil, encodes-chars, IsUtf8-from_ascii, IsUtf8-take}
 use Rattle.litrs_base.proofs.Chars.{ascii_by_test, chars_ascii}
-use Rattle.std.proofs.lemmas.Bool.{eqb-true, false≢true}
 use Rattle.std.proofs.lemmas.List.{take-append-drop, append_cancel_right}
 use Rattle.litrs_base.specs.declared.err.ParseError.{ParseError}
-use Rattle.litrs_base.specs.Text.{byte_len, first_passes}
-use Rattle.litrs_grammar.specs.Float.{is_period}
+use Rattle.litrs_base.specs.Text.{byte_len}
 use Rattle.litrs_base.specs.Derivations.{HasNoDerivation}
 use Rattle.litrs_grammar.specs.Literal.{Derivation, IsLiteral, literal_parse}
 use Rattle.litrs_grammar.specs.Refused.{IsRefused, IsRefusedOrOutOfMemory}
 use Rattle.litrs_base.specs.Refusal.{Refusal, span_of, MovesWithin}
+use Rattle.litrs_grammar.proofs.Laws.Literal.{literals_are_unique}
 use Rattle.litrs_lex.proofs.CharCuts.{cut_at}
 use Rattle.litrs.proofs.MovedRefusals.{refusal_moves}
 use Rattle.litrs_prefix.specs.declared.MalformedPrefix.{MalformedPrefix}
@@ -20,12 +18,10 @@ use Rattle.litrs_prefix.specs.Ends.{EndsBefore}
 use Rattle.litrs_prefix.specs.Extent.{IsLiteralLen, IsMalformedLen}
 use Rattle.litrs_prefix.specs.Malformed.{IsMalformed, IsMalformedOrOutOfMemory}
 use Rattle.litrs_prefix.specs.Meant.{IsMeant}
-use Rattle.litrs_prefix.specs.Prefix.{may_follow, HasPrefix}
-use Rattle.litrs_prefix.proofs.Ends.{front_is}
-use Rattle.litrs_prefix.proofs.LongerTexts.{whole}
+use Rattle.litrs_prefix.specs.Prefix.{HasPrefix}
+use Rattle.litrs_prefix.proofs.Ends.{front_is, bytes_spell, end_at, not_longer}
 use Rattle.litrs_prefix.proofs.MeantPieces.{meant_longer}
-use Rattle.litrs_prefix.proofs.Opened.{opened}
-use Rattle.litrs_prefix.proofs.Unique.{unique}
+use Rattle.litrs_prefix.proofs.Unique.{no_literal}
 
 -- the two parts of a text that is cut at a character
 pub parts_spell : (bs front rest : List ℕ) (n : ℕ) → IsUtf8 bs → IsCharBoundary bs n → front ≡ take n bs → rest ≡ drop n bs → chars front ++ chars rest ≡ chars bs
@@ -43,40 +39,33 @@ piece_len : (bs front : List ℕ) (n : ℕ) → IsUtf8 bs → IsCharBoundary bs 
 piece_len bs front n u bound before size =
     ap length (encodes-chars front (subst (λ (l : List ℕ). IsUtf8 l) (sym before) (IsUtf8-take bs n u bound))) ∙ size
 
--- each error of the literal at the front of the text is that of its allocation
-memory_of : (bs front rest : List ℕ) (n : ℕ) (e : ParseError) (d : Derivation) (r : List ℕ) → IsUtf8 bs → IsCharBoundary bs n → front ≡ take n bs → rest ≡ drop n bs → length front ≡ n →
-    IsRefusedOrOutOfMemory literal_parse (chars front) e → HasPrefix (chars bs) d r → EndsBefore bs r n →
-    IsMalformedOrOutOfMemory (chars bs) (record { error = e; len = n })
-memory_of bs front rest n e d r u bound before after size (inl is) at place = absurd (is.none d (piece_is bs front n d r u before place at))
-memory_of bs front rest n e d r u bound before after size (inr is) at place =
-    let literal : IsLiteral (chars front) d = piece_is bs front n d r u before place at in
-    let same : d ≡ is.derivation = (unique (chars front) d is.derivation [] [] (whole (chars front) d literal) (whole (chars front) is.derivation is.literal)).0 in
-    let left : r ≡ chars rest = sym place.1 ∙ ap chars (sym after) in
-    let spells : chars front ++ chars rest ≡ chars bs = parts_spell bs front rest n u bound before after in
-    inr (record {
-      front = chars front;
-      rest = chars rest;
-      spells = spells;
-      len = piece_len bs front n u bound before size;
-      refused = is;
-      prefix = record {
-        front = chars front;
-        spells = spells;
-        literal = is.literal;
-        follows = subst (λ (x : Derivation). may_follow x (chars rest) ≡ true) same (subst (λ (l : List ℕ). may_follow d l ≡ true) left at.follows);
-      };
-    })
-
 -- the error of a piece that is not a literal
 refused_at : (front : List ℕ) (e : ParseError) → IsRefusedOrOutOfMemory literal_parse front e → HasNoDerivation (IsLiteral front) → IsRefused literal_parse front e
 refused_at front e (inl is) none = is
 refused_at front e (inr is) none = absurd (none is.derivation is.literal)
 
+-- the literal that is the front
+pub front_found : (bs front rest : List ℕ) (n : ℕ) (x : Derivation) → IsUtf8 bs → front ≡ take n bs → rest ≡ drop n bs → IsLiteralLen bs n ⊎ IsMalformedLen bs n → IsLiteral (chars front) x →
+    HasPrefix (chars bs) x (chars rest)
+front_found bs front rest n x u before after (inr is) h = absurd (is.front.invalid x (subst (λ (l : List ℕ). IsLiteral (chars l) x) before h))
+front_found bs front rest n x u before after (inl is) h =
+    let literal = piece_is bs front n is.literal (chars (drop n bs)) u before (is.boundary, refl) is.at_front in
+    let same : is.literal ≡ x = literals_are_unique (chars front) is.literal x literal h in
+    subst (λ (d : Derivation). HasPrefix (chars bs) d (chars rest)) same (subst (λ (l : List ℕ). HasPrefix (chars bs) is.literal (chars l)) (sym after) is.at_front)
+
 -- the error of the literal, valid or malformed, at the front
 pub front_refused : (bs front rest : List ℕ) (n : ℕ) (e : ParseError) → IsUtf8 bs → front ≡ take n bs → rest ≡ drop n bs → length front ≡ n → IsLiteralLen bs n ⊎ IsMalformedLen bs n →
     IsRefusedOrOutOfMemory literal_parse (chars front) e → IsMalformedOrOutOfMemory (chars bs) (record { error = e; len = n })
-front_refused bs front rest n e u before after size (inl is) refused =
-    memory_of bs front rest n e is.literal (chars (drop n bs)) u is.boundary before after size refused is.at_front (is.boundary, refl)
+front_refused bs front rest n e u before after size (inl is) (inl none) =
+    absurd (none.none is.literal (piece_is bs front n is.literal (chars (drop n bs)) u before (is.boundary, refl) is.at_front))
+front_refused bs front rest n e u before after size (inl is) (inr memory) = inr (record {
+  front = chars front;
+  rest = chars rest;
+  spells = parts_spell bs front rest n u is.boundary before after;
+  len = piece_len bs front n u is.boundary before size;
+  refused = memory;
+  prefix = front_found bs front rest n memory.derivation u before after (inl is) memory.literal;
+})
 front_refused bs front rest n e u before after size (inr is) refused = inl (record {
   front = chars front;
   rest = chars rest;
@@ -88,15 +77,6 @@ front_refused bs front rest n e u before after size (inr is) refused = inl (reco
   opens = is.front.opens;
   none = is.front.none;
 })
-
--- the literal that is the front
-pub front_found : (bs front rest : List ℕ) (n : ℕ) (x : Derivation) → IsUtf8 bs → front ≡ take n bs → rest ≡ drop n bs → IsLiteralLen bs n ⊎ IsMalformedLen bs n → IsLiteral (chars front) x →
-    HasPrefix (chars bs) x (chars rest)
-front_found bs front rest n x u before after (inr is) h = absurd (is.front.invalid x (subst (λ (l : List ℕ). IsLiteral (chars l) x) before h))
-front_found bs front rest n x u before after (inl is) h =
-    let literal = piece_is bs front n is.literal (chars (drop n bs)) u before (is.boundary, refl) is.at_front in
-    let same : is.literal ≡ x = (unique (chars front) is.literal x [] [] (whole (chars front) is.literal literal) (whole (chars front) x h)).0 in
-    subst (λ (d : Derivation). HasPrefix (chars bs) d (chars rest)) same (subst (λ (l : List ℕ). HasPrefix (chars bs) is.literal (chars l)) (sym after) is.at_front)
 
 -- the offset by which the spans of an error are moved fits, if it is within the source text
 pub malformed_moves : (bs : List ℕ) (e : MalformedPrefix) (offset : ℕ) → IsUtf8 bs → offset + length bs < 2 ^ 64 → IsMalformedOrOutOfMemory (chars bs) e → MovesWithin offset e.error
@@ -112,46 +92,22 @@ malformed_moves bs e offset u small (inr is) = λ x same. let none : span_of e.e
 pub no_empty_piece : (bs : List ℕ) (d : Derivation) (r : List ℕ) → HasPrefix (chars bs) d r → EndsBefore bs r 0 → ⊥
 no_empty_piece bs d r at place =
     let none : at.front ≡ [] = append_cancel_right at.front [] r (at.spells ∙ place.1) in
-    let empty = subst (λ (t : List ℕ). IsLiteral t d) none at.literal in
-    false≢true (opened [] d [] (whole [] d empty))
+    no_literal d (subst (λ (t : List ℕ). IsLiteral t d) none at.literal)
 
 -- a text that ends with a period, in bytes
 pub last_period : (bs front : List ℕ) → IsUtf8 bs → front ++ 46 ∷ [] ≡ chars bs → IsCharBoundary bs (length bs - 1) × (drop (length bs - 1) bs ≡ 46 ∷ []) × (1 ≤ length bs)
 last_period bs front u is =
-    let cut = cut_at bs front (46 ∷ []) u (sym is) in
-    let n = byte_len front in
-    let last : drop n bs ≡ 46 ∷ [] = sym (encodes-chars (drop n bs) cut.utf8) ∙ (ap encode_utf8_all cut.rest ∙ encodes-IsAscii (46 ∷ []) (ascii_by_test (46 ∷ []) refl)) in
-    let one : length (drop n bs) ≡ 1 = ap length last in
-    let within = cut.within in
-    let place : n ≡ length bs - 1 = omega (arith, length-drop {A = ℕ}) in (
-      subst (λ (k : ℕ). IsCharBoundary bs k) place cut.boundary,
-      subst (λ (k : ℕ). drop k bs ≡ 46 ∷ []) place last,
-      omega (arith, length-drop {A = ℕ}),
-    )
+    let period : chars (46 ∷ []) ≡ 46 ∷ [] = chars_ascii 46 [] (omega arith) ∙ ap (λ (l : List ℕ). 46 ∷ l) chars-nil in
+    let v = IsUtf8-from_ascii (46 ∷ []) (ascii_by_test (46 ∷ []) refl) in
+    let spells = bytes_spell bs (46 ∷ []) front u v (ap (λ (l : List ℕ). front ++ l) period ∙ is) in
+    let at = end_at bs _ (46 ∷ []) v spells in
+    (at.0, at.1, not_longer bs (46 ∷ []) (_, spells))
 
-nothing_left : (l : List ℕ) → length l ≡ 0 → l ≡ []
-nothing_left [] h = refl
-nothing_left (x ∷ l) h = absurd (omega arith)
-
--- one byte that begins with a period is a period
-pub one_period : (last : List ℕ) → IsUtf8 last → length last ≡ 1 → first_passes is_period (chars last) ≡ true → last ≡ 46 ∷ []
-one_period last u one h = go (chars last) refl h
-  where
-    go : (t : List ℕ) → chars last ≡ t → first_passes is_period t ≡ true → last ≡ 46 ∷ []
-    go [] is h = absurd (false≢true h)
-    go (c ∷ t) is h =
-        let same : c ≡ 46 = eqb-true c 46 h in
-        let bytes : last ≡ encode_utf8 c ++ encode_utf8_all t = sym (encodes-chars last u) ∙ ap encode_utf8_all is in
-        let first : encode_utf8 c ≡ 46 ∷ [] = ap encode_utf8 same ∙ encode_ascii 46 (omega arith) in
-        let whole : last ≡ 46 ∷ encode_utf8_all t = bytes ∙ ap (λ (l : List ℕ). l ++ encode_utf8_all t) first in
-        let size : length last ≡ length (46 ∷ encode_utf8_all t) = ap length whole in
-        let none : encode_utf8_all t ≡ [] = nothing_left (encode_utf8_all t) (omega arith) in
-        whole ∙ ap (λ (l : List ℕ). 46 ∷ l) none
-
-pub before_period : (bs front last : List ℕ) (n : ℕ) → IsUtf8 bs → IsCharBoundary bs n → front ≡ take n bs → last ≡ drop n bs → last ≡ 46 ∷ [] → chars front ++ 46 ∷ [] ≡ chars bs
-before_period bs front last n u bound before after is =
-    ap (λ (l : List ℕ). chars front ++ l) (sym (ap chars is ∙ (chars_ascii 46 [] (omega arith) ∙ ap (λ (l : List ℕ). 46 ∷ l) chars-nil)))
-    ∙ parts_spell bs front last n u bound before after
+pub period_after : (bs front : List ℕ) (n : ℕ) → IsUtf8 bs → front ≡ take (length bs - n) bs → n ≡ 1 → bs ≡ take (length bs - n) bs ++ 46 ∷ [] → IsCharBoundary bs (length bs - 1) →
+    chars front ++ 46 ∷ [] ≡ chars bs
+period_after bs front n u before one is bound =
+    let text : IsUtf8 front = subst (λ (l : List ℕ). IsUtf8 l) (ap (λ (k : ℕ). take (length bs - k) bs) (sym one) ∙ sym before) (IsUtf8-take bs (length bs - 1) u bound) in
+    sym (ap chars (is ∙ ap (λ (l : List ℕ). l ++ 46 ∷ []) (sym before)) ∙ (chars-append front (46 ∷ []) text ∙ ap (λ (l : List ℕ). chars front ++ l) (chars_ascii 46 [] (omega arith) ∙ ap (λ (l : List ℕ). 46 ∷ l) chars-nil)))
 
 -- a malformed prefix ends at a character
 pub malformed_boundary : (bs : List ℕ) (e : MalformedPrefix) → IsUtf8 bs → IsMalformed (chars bs) e → IsCharBoundary bs e.len
@@ -160,23 +116,15 @@ malformed_boundary bs e u is = subst (λ (n : ℕ). IsCharBoundary bs n) is.len 
 -- the piece that is one character longer than a literal
 pub meant_next : (bs : List ℕ) (start n : ℕ) (d : Derivation) → IsUtf8 bs → IsCharBoundary bs start → IsCharBoundary bs n → chars (drop n bs) ≡ drop 1 (chars (drop start bs)) →
     IsMeant (chars bs) (chars (take start bs)) → IsLiteral (chars (take start bs)) d → IsMeant (chars bs) (chars (take n bs))
-meant_next bs start n d u before after left is literal = go (chars (drop start bs)) refl
+meant_next bs start n d u before after left is literal =
+    let r : List ℕ = chars (drop start bs) in
+    let old : front ++ r ≡ chars bs = parts_spell bs (take start bs) (drop start bs) start u before refl refl in
+    let new : (front ++ take 1 r) ++ drop 1 r ≡ chars bs = append_assoc front (take 1 r) (drop 1 r) ∙ (ap (λ (l : List ℕ). front ++ l) (take-append-drop 1 r) ∙ old) in
+    subst (λ (l : List ℕ). IsMeant (chars bs) l) (sym (front_is bs n (front ++ take 1 r) (drop 1 r) u after left new)) (next r)
   where
-    old : chars (take start bs) ++ chars (drop start bs) ≡ chars bs
-    old = parts_spell bs (take start bs) (drop start bs) start u before refl refl
+    front : List ℕ
+    front = chars (take start bs)
 
-    new : chars (take n bs) ++ chars (drop n bs) ≡ chars bs
-    new = parts_spell bs (take n bs) (drop n bs) n u after refl refl
-
-    go : (r : List ℕ) → chars (drop start bs) ≡ r → IsMeant (chars bs) (chars (take n bs))
-    go [] e =
-        let same : chars (take n bs) ≡ chars (take start bs) =
-        append_cancel_right (chars (take n bs)) (chars (take start bs)) []
-        (ap (λ (l : List ℕ). chars (take n bs) ++ l) (sym (left ∙ ap (drop 1) e)) ∙ (new ∙ (sym old ∙ ap (λ (l : List ℕ). chars (take start bs) ++ l) e))) in
-        subst (λ (l : List ℕ). IsMeant (chars bs) l) (sym same) is
-    go (c ∷ r) e =
-        let same : chars (take n bs) ≡ chars (take start bs) ++ c ∷ [] =
-        append_cancel_right (chars (take n bs)) (chars (take start bs) ++ c ∷ []) r
-        (ap (λ (l : List ℕ). chars (take n bs) ++ l) (sym (left ∙ ap (drop 1) e))
-        ∙ (new ∙ (sym old ∙ (ap (λ (l : List ℕ). chars (take start bs) ++ l) e ∙ sym (append_assoc (chars (take start bs)) (c ∷ []) r))))) in
-        subst (λ (l : List ℕ). IsMeant (chars bs) l) (sym same) (meant_longer (chars bs) (chars (take start bs)) c d is literal)
+    next : (r : List ℕ) → IsMeant (chars bs) (front ++ take 1 r)
+    next [] = subst (λ (l : List ℕ). IsMeant (chars bs) l) (sym (append-nil front)) is
+    next (c ∷ r) = meant_longer (chars bs) front c d is literal

@@ -1,6 +1,6 @@
 -- Names at the front of a text: their ASCII characters are passed by their bytes.
-use Rattle.std.proofs.Common.{◌≡◌, ℕ, suc, ◌+◌, ◌<◌, Bool, true, false, cond, List, [], ◌∷◌, ◌++◌, length, drop, refl, sym, ap, subst, ◌∙◌, arith}
-use Rattle.std.specs.Prelude.{nat_le, ltb}
+use Rattle.std.proofs.Common.{◌≡◌, ℕ, ◌<◌, Bool, true, false, List, [], ◌∷◌, ◌++◌, length, drop, refl, sym, ap, subst, ◌∙◌, arith}
+use Rattle.std.specs.Prelude.{nat_le, ltb, if◌then◌else◌}
 use Rattle.std.specs.List.{list_all, prefix_len}
 use Rattle.std.specs.Str.{chars, IsUtf8, IsCharBoundary}
 use Rattle.std.proofs.lemmas.Bool.{true≢false, false_from_ne_true}
@@ -9,8 +9,8 @@ use Rattle.std.proofs.lemmas.Str.{IsCharBoundary-from_drop, chars-nil}
 use Rattle.unicode_ident.specs.Ident.{is_xid_continue}
 use Rattle.unicode_ident.proofs.IdentLemmas.{is_xid_continue-ascii}
 use Rattle.litrs_base.proofs.Begins.{begins_with-split, begins_with-append}
-use Rattle.litrs_base.proofs.Chars.{chars_ascii, ascii_from_test, begins_with-chars, begins_front, passing_front, prefix_len-chars}
-use Rattle.litrs_base.proofs.ListTests.{if_true, if_false}
+use Rattle.litrs_base.proofs.Chars.{OnlyAscii, chars_ascii, ascii_from_test, begins_with-chars, begins_front, passing_front, prefix_len-chars}
+use Rattle.litrs_base.proofs.ListTests.{if_false}
 use Rattle.litrs_base.specs.Text.{begins_with, first_passes}
 use Rattle.litrs_grammar.specs.Bool.{bool_text, is_bool}
 use Rattle.litrs_grammar.proofs.Laws.Integer.{first_passes-rest}
@@ -19,28 +19,30 @@ use Rattle.litrs_lex.proofs.SuffixBytes.{is_word, words_are_ascii}
 use Rattle.litrs_prefix.specs.Opens.{after_run, after_name, first_name}
 use Rattle.litrs_prefix.proofs.Names.{name_and_rest}
 
-skip_more : (c : ℕ) (n : ℕ) (t : List ℕ) → drop (1 + n) (c ∷ t) ≡ drop n t
-skip_more c n t = let e : 1 + n ≡ suc n = omega arith in ap (λ (k : ℕ). drop k (c ∷ t)) e
+pub drop_passed : (p : ℕ → Bool) (c : ℕ) (t : List ℕ) → drop (prefix_len p (c ∷ t)) (c ∷ t) ≡ (if p c then drop (prefix_len p t) t else (c ∷ t))
+drop_passed p c t = grind arith
 
-run_from : (t : List ℕ) → after_run t ≡ after_run (drop (prefix_len is_word t) t)
-run_from [] = refl
-run_from (c ∷ t) = go (is_word c) refl (run_from t)
-  where
-    go : (b : Bool) → is_word c ≡ b → after_run t ≡ after_run (drop (prefix_len is_word t) t) →
-        after_run (c ∷ t) ≡ after_run (drop (cond b (1 + prefix_len is_word t) 0) (c ∷ t))
-    go true e rec =
-        if_true (is_xid_continue c) (after_run t) (c ∷ t) (is_xid_continue-ascii c (ascii_from_test is_word c words_are_ascii e) ∙ e)
-        ∙ (rec ∙ ap after_run (sym (skip_more c (prefix_len is_word t) t)))
-    go false e rec = refl
+passed_step : (p : ℕ → Bool) (c : ℕ) (t : List ℕ) → (p c ≡ true → is_xid_continue c ≡ true) → after_run t ≡ after_run (drop (prefix_len p t) t) →
+    after_run (c ∷ t) ≡ after_run (if p c then drop (prefix_len p t) t else (c ∷ t))
+passed_step p c t goes rest = grind arith
+
+pub run_past : (p : ℕ → Bool) → ((c : ℕ) → p c ≡ true → is_xid_continue c ≡ true) → (t : List ℕ) → after_run t ≡ after_run (drop (prefix_len p t) t)
+run_past p goes [] = refl
+run_past p goes (c ∷ t) = passed_step p c t (goes c) (run_past p goes t) ∙ ap after_run (sym (drop_passed p c t))
+
+-- the characters at the front of a text that pass a test of ASCII characters, in bytes
+pub ascii_front : (p : ℕ → Bool) → OnlyAscii p → (bs : List ℕ) → IsUtf8 bs → IsCharBoundary bs (prefix_len p bs) × (chars (drop (prefix_len p bs) bs) ≡ drop (prefix_len p (chars bs)) (chars bs))
+ascii_front p only bs u =
+    let f = passing_front p bs only u in
+    let same : prefix_len p (chars bs) ≡ prefix_len p bs = prefix_len-chars p bs only u in
+    (IsCharBoundary-from_drop bs (prefix_len p bs) f.within f.utf8, sym f.rest ∙ ap (λ (n : ℕ). drop n (chars bs)) (sym same))
 
 -- the place at which the text is cut after the ASCII characters
 pub name_cut : (bs : List ℕ) (n : ℕ) → IsUtf8 bs → n ≡ prefix_len is_word bs → IsCharBoundary bs n × (after_run (chars (drop n bs)) ≡ after_run (chars bs))
 name_cut bs n u is =
-    let m : ℕ = prefix_len is_word bs in
-    let f = passing_front is_word bs words_are_ascii u in
-    let same : after_run (chars (drop m bs)) ≡ after_run (chars bs) =
-    ap after_run (sym f.rest) ∙ (ap (λ (k : ℕ). after_run (drop k (chars bs))) (sym (prefix_len-chars is_word bs words_are_ascii u)) ∙ sym (run_from (chars bs))) in
-    subst (λ (k : ℕ). IsCharBoundary bs k × (after_run (chars (drop k bs)) ≡ after_run (chars bs))) (sym is) (IsCharBoundary-from_drop bs m f.within f.utf8, same)
+    let cut = ascii_front is_word words_are_ascii bs u in
+    let goes = λ (c : ℕ) (h : is_word c ≡ true). is_xid_continue-ascii c (ascii_from_test is_word c words_are_ascii h) ∙ h in
+    subst (λ (k : ℕ). IsCharBoundary bs k × (after_run (chars (drop k bs)) ≡ after_run (chars bs))) (sym is) (cut.0, ap after_run cut.1 ∙ sym (run_past is_word goes (chars bs)))
 
 -- no more characters pass before an ASCII character that does not
 ends_at : (bs : List ℕ) → first_passes is_word bs ≡ false → first_passes (nat_le 128) bs ≡ false → after_run (chars bs) ≡ chars bs
@@ -57,16 +59,18 @@ name_ends bs rest n u is back narrow =
 -- bools, by their first bytes
 
 bool_low : (b : Bool) → list_all (λ c. ltb c 128) (bool_text b) ≡ true
-bool_low true = refl
-bool_low false = refl
+bool_low b = grind arith
+
+-- a text after an ASCII word at its front
+pub front_cut : (word bs : List ℕ) (n : ℕ) → list_all (λ c. ltb c 128) word ≡ true → IsUtf8 bs → begins_with word bs ≡ true → n ≡ length word → IsCharBoundary bs n × (word ++ chars (drop n bs) ≡ chars bs)
+front_cut word bs n low u begins is =
+    let f = begins_front word bs low begins u in
+    let spells : word ++ chars (drop (length word) bs) ≡ chars bs =
+    ap (λ (l : List ℕ). word ++ l) (sym f.rest) ∙ begins_with-split word (chars bs) (begins_with-chars word bs low u ∙ begins) in
+    subst (λ (k : ℕ). IsCharBoundary bs k × (word ++ chars (drop k bs) ≡ chars bs)) (sym is) (IsCharBoundary-from_drop bs (length word) f.within f.utf8, spells)
 
 pub bool_front : (bs : List ℕ) (b : Bool) (n : ℕ) → IsUtf8 bs → begins_with (bool_text b) bs ≡ true → n ≡ length (bool_text b) → IsCharBoundary bs n × (bool_text b ++ chars (drop n bs) ≡ chars bs)
-bool_front bs b n u begins is =
-    let word = bool_text b in
-    let f = begins_front word bs (bool_low b) begins u in
-    let spells : word ++ chars (drop (length word) bs) ≡ chars bs =
-    ap (λ (l : List ℕ). word ++ l) (sym f.rest) ∙ begins_with-split word (chars bs) (begins_with-chars word bs (bool_low b) u ∙ begins) in
-    subst (λ (k : ℕ). IsCharBoundary bs k × (word ++ chars (drop k bs) ≡ chars bs)) (sym is) (IsCharBoundary-from_drop bs (length word) f.within f.utf8, spells)
+bool_front bs b n = front_cut (bool_text b) bs n (bool_low b)
 
 -- no bool is at the front
 pub no_bool_name : (bs : List ℕ) → IsUtf8 bs → ((b : Bool) → begins_with (bool_text b) bs ≡ false) → is_bool (first_name (chars bs)) ≡ false

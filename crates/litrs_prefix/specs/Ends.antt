@@ -1,6 +1,5 @@
 -- The ends of literals, as the code finds them.
 use Rattle.std.specs.Prelude.{◌≡◌, ℕ, Bool, not, ◌==◌, ◌&&◌, List, [], ◌∷◌, ◌++◌, drop, if◌then◌else◌, IsTrue}
-use Rattle.std.specs.Char.{is_ascii_alphabetic}
 use Rattle.std.specs.List.{prefix_len}
 use Rattle.std.specs.Str.{chars, IsUtf8, IsCharBoundary}
 use Rattle.litrs_base.specs.Characters.{single_quote, backslash, line_feed}
@@ -18,10 +17,6 @@ IsEndOf text rest = (front : List ℕ) × (front ++ rest ≡ text)
 -- The part of a text after the decimal digits and underscores at its front.
 abbrev pub after_digits : List ℕ → List ℕ
 after_digits t = drop (prefix_len is_decimal_char t) t
-
--- An ASCII letter but `e` and `E`.
-abbrev pub is_other_letter : ℕ → Bool
-is_other_letter c = is_ascii_alphabetic c && not (is_e c)
 
 -- The part of a text after a period at its front, and the digits and underscores after it.
 abbrev pub after_fraction : List ℕ → List ℕ

@@ -16,3 +16,5 @@ pub mod Extent
 pub mod Laws
 -- the ends of literals, as the code finds them
 pub mod Ends
+-- the words of the contracts and of their proofs
+pub mod Words

@@ -1,20 +1,12 @@
 //! The extent of the literal at the front of a text, valid or malformed.
-ghost use Rattle.std.specs.Prelude.{◌≡◌, ◌<◌, ◌∷◌, drop, take, IsTrue, IfOk, IfErr, IfSome, IfNone};
-ghost use Rattle.std.specs.Str.{chars, IsCharBoundary};
-ghost use Rattle.litrs_grammar.specs.Literal.{Derivation};
-ghost use Rattle.litrs_prefix.specs.Ends.{IsEndOf, IsOnlyRest};
-ghost use Rattle.litrs_prefix.specs.Extent.{IsLiteralLen, IsMalformedLen};
-ghost use Rattle.litrs_prefix.specs.Meant.{after_opened, IsMeant};
-ghost use Rattle.litrs_prefix.specs.Opens.{opens};
-ghost use Rattle.litrs_prefix.specs.Prefix.{HasPrefix, HasNoPrefix};
+ghost use Rattle.litrs_prefix.specs.Words.{◌<◌, drop, take, IsTrue, IfOk, IfErr, IfSome, IfNone, chars, IsCharBoundary, Derivation, IsOnlyRest, IsLiteralLen, IsMalformedLen, after_opened, IsMeant, opens, HasPrefix, HasNoPrefix};
 
-use crate::follow::ends_bool;
+use crate::follow::{ends_bool, follows};
 use crate::malformed::after_opened;
 use crate::next_boundary;
 use crate::opening::{bool_len, opens};
-use crate::piece::follows;
 use crate::plain::{char_extent, number_extent, quoted_extent, raw_extent};
-use litrs_base::{CharKind, split_first_char};
+use litrs_base::{CharKind, begins_with_digit};
 use litrs_lex::StringKind;
 
 /// Returns the length in bytes of the literal at the front of `text`, suffix included, or `None` if
@@ -61,67 +53,20 @@ pub fn opened_extent(text: &str) -> Result<usize, usize>
     ensures literal { IfOk result (IsLiteralLen text.now) }
     ensures malformed { IfErr result (IsMalformedLen text.now) }
 {
-    match split_first_char(text) {
-        Some((c, body)) => {
-            if c.is_ascii_digit() {
-                number_extent(text)
-            } else if c == '"' {
-                quoted_extent(text, body, StringKind::String)
-            } else if c == '\'' {
-                char_extent(text, body, CharKind::Char)
-            } else if c == 'r' {
-                raw_extent(text, body, StringKind::String)
-            } else if c == 'b' {
-                bytes_extent(text, body)
-            } else {
-                bool_extent(text)
-            }
-        }
-        None => judged_extent(text),
+    if begins_with_digit(text) {
+        return number_extent(text);
     }
-}
-
-/// Like [`opened_extent`], for a text that starts with `b`, before `after`.
-fn bytes_extent<'a>(text: &'a str, after: &'a str) -> Result<usize, usize>
-    requires opens { IsTrue (opens (chars text.now)) }
-    requires front { chars text.now ≡ 98 ∷ chars after.now }
-    requires end { IsEndOf text.now after.now }
-    ensures literal { IfOk result (IsLiteralLen text.now) }
-    ensures malformed { IfErr result (IsMalformedLen text.now) }
-{
-    match split_first_char(after) {
-        Some((c, body)) => {
-            if c == '\'' {
-                char_extent(text, body, CharKind::Byte)
-            } else if c == '"' {
-                quoted_extent(text, body, StringKind::ByteString)
-            } else if c == 'r' {
-                raw_extent(text, body, StringKind::ByteString)
-            } else {
-                judged_extent(text)
-            }
-        }
-        None => judged_extent(text),
-    }
-}
-
-/// Like [`judged_extent`], for a text that may start with a bool.
-fn bool_extent(text: &str) -> Result<usize, usize>
-    requires opens { IsTrue (opens (chars text.now)) }
-    requires only { IsOnlyRest (chars text.now) (after_opened (chars text.now)) }
-    ensures literal { IfOk result (IsLiteralLen text.now) }
-    ensures malformed { IfErr result (IsMalformedLen text.now) }
-{
-    match bool_len(text) {
-        Some(len) => {
-            let (_, rest) = text.split_at(len);
-            if ends_bool(rest) {
-                Ok(len)
-            } else {
-                judged_extent(text)
-            }
-        }
-        None => judged_extent(text),
+    match text.as_bytes() {
+        [b'"', ..] => quoted_extent(text, StringKind::String),
+        [b'\'', ..] => char_extent(text, 1, CharKind::Char),
+        [b'r', ..] => raw_extent(text, StringKind::String),
+        [b'b', b'\'', ..] => char_extent(text, 2, CharKind::Byte),
+        [b'b', b'"', ..] => quoted_extent(text, StringKind::ByteString),
+        [b'b', b'r', ..] => raw_extent(text, StringKind::ByteString),
+        _ => match bool_len(text) {
+            Some(len) if ends_bool(&text[len..]) => Ok(len),
+            _ => judged_extent(text),
+        },
     }
 }
 
@@ -136,11 +81,8 @@ pub(crate) fn judged_extent(text: &str) -> Result<usize, usize>
     let len = text.len() - after_opened(text).len();
     let (front, rest) = text.split_at(len);
     match follows(front, rest) {
-        Some(ends) => if ends {
-            Ok(len)
-        } else {
-            Err(malformed_len(text, len))
-        },
+        Some(true) => Ok(len),
+        Some(false) => Err(malformed_len(text, len)),
         None => Err(len),
     }
 }

@@ -1,17 +1,112 @@
-//! Tests of the text after a literal, which decide whether the literal ends there.
-ghost use Rattle.std.specs.Prelude.{◌≡◌, not, Bool};
-ghost use Rattle.std.specs.Str.{chars};
-ghost use Rattle.litrs_base.specs.Text.{first_passes};
-ghost use Rattle.litrs_grammar.specs.Float.{is_period};
-ghost use Rattle.litrs.specs.FloatLiteral.{float_parts};
-ghost use Rattle.litrs.specs.IntegerLiteral.{integer_parts};
-ghost use Rattle.litrs.specs.LiteralDerivation.{derivation};
-ghost use Rattle.litrs_prefix.specs.Prefix.{is_of_suffix, ends_suffix, is_quote_or_hash, ends_bool, keeps_period, gives_period, ends_integer, is_bare, ends_float, may_follow};
+//! Tests of a piece of a text: it is a literal, and the rest may follow it.
+ghost use Rattle.litrs_prefix.specs.Words.{◌≡◌, chars, first_passes, is_period, float_parts, integer_parts, derivation, is_of_suffix, ends_suffix, ends_bool, keeps_period, gives_period, ends_integer, is_bare, ends_float, may_follow, ◌&&◌, IsTrue, begins_with, quoted_front, raw_front, IsFloatOf, IsIntegerOf, begins_float, IsQuotedLiteral, IsRawLiteral, IsFront, IsJudged, IsJudgedBy};
 
-use crate::name::{begins_name, is_empty};
+use crate::malformed::after_digits;
+use crate::opening::{begins_name, is_empty};
 use litrs::{FloatLit, IntegerLit, Literal};
 use litrs_base::{begins_with_digit, split_first_char};
+use litrs_lex::{Front, StringKind, cut_byte, cut_char, cut_quoted, scan_raw_string};
 use unicode_ident::is_xid_continue;
+
+/// Returns `Some(true)` if `rest` may follow the literal `front`, `Some(false)` if it may not, and
+/// `None` if `front` is not a literal.
+pub fn follows(front: &str, rest: &str) -> Option<bool>
+    ensures { IsJudged result (chars front.now) (chars rest.now) }
+{
+    match Front::of(front) {
+        Front::Bool(_) => Some(ends_bool(rest)),
+        Front::Number => number_follows(front, rest),
+        Front::Char => match cut_char(front) {
+            Ok((_, start)) => Some(ends_suffix(&front[start..], rest)),
+            Err(_) => None,
+        },
+        Front::Byte => match cut_byte(front) {
+            Ok((_, start)) => Some(ends_suffix(&front[start..], rest)),
+            Err(_) => None,
+        },
+        Front::Quoted(kind) => quoted_follows(front, rest, kind),
+        Front::Raw(kind) => raw_follows(front, rest, kind),
+        Front::Empty => None,
+        Front::Other => None,
+    }
+}
+
+/// Like [`follows`], for a number.
+fn number_follows(front: &str, rest: &str) -> Option<bool>
+    requires { IsFront Front.Number front.now }
+    ensures { IsJudged result (chars front.now) (chars rest.now) }
+{
+    if begins_float(front) {
+        float_follows(front, rest)
+    } else {
+        integer_follows(front, rest)
+    }
+}
+
+/// Returns `true` if `front` is parsed as a float: a period, `e` or `E` follows its digits.
+fn begins_float(front: &str) -> bool
+    ensures { result ≡ begins_float (chars front.now) }
+{
+    matches!(
+        split_first_char(after_digits(front)),
+        Some(('.' | 'e' | 'E', _))
+    )
+}
+
+/// Like [`follows`], for an integer.
+pub fn integer_follows(front: &str, rest: &str) -> Option<bool>
+    ensures { IsJudgedBy (IsIntegerOf (chars front.now))
+        (λ d. ends_suffix d.suffix (chars rest.now) && ends_integer d (chars rest.now)) result }
+{
+    match IntegerLit::parse(front) {
+        Ok(lit) => Some(ends_suffix(lit.suffix(), rest) && ends_integer(&lit, rest)),
+        Err(_) => None,
+    }
+}
+
+/// Like [`follows`], for a float.
+fn float_follows(front: &str, rest: &str) -> Option<bool>
+    ensures { IsJudgedBy (IsFloatOf (chars front.now))
+        (λ d. ends_suffix d.suffix (chars rest.now) && ends_float d (chars rest.now)) result }
+{
+    match FloatLit::parse(front) {
+        Ok(lit) => Some(ends_suffix(lit.suffix(), rest) && ends_float(&lit, rest)),
+        Err(_) => None,
+    }
+}
+
+/// Like [`follows`], for a quoted string of the kind `kind`.
+fn quoted_follows(front: &str, rest: &str, kind: StringKind) -> Option<bool>
+    requires { IsTrue (begins_with (quoted_front kind) front.now) }
+    ensures { IsJudgedBy (IsQuotedLiteral kind (chars front.now))
+        (λ d. ends_suffix d.suffix (chars rest.now)) result }
+{
+    let allowed = kind.switches();
+    let start = kind.front_len();
+    match cut_quoted(
+        front,
+        start,
+        allowed.unicode,
+        allowed.byte_escapes,
+        allowed.allow_nul,
+    ) {
+        Ok(cut) => Some(ends_suffix(&front[cut.start_suffix..], rest)),
+        Err(_) => None,
+    }
+}
+
+/// Like [`follows`], for a raw string of the kind `kind`.
+fn raw_follows(front: &str, rest: &str, kind: StringKind) -> Option<bool>
+    requires { IsTrue (begins_with (raw_front kind) front.now) }
+    ensures { IsJudgedBy (IsRawLiteral kind (chars front.now))
+        (λ d. ends_suffix d.suffix (chars rest.now)) result }
+{
+    let allowed = kind.switches();
+    match scan_raw_string(front, kind.front_len(), allowed.unicode, allowed.allow_nul) {
+        Ok((_, start)) => Some(ends_suffix(&front[start..], rest)),
+        Err(_) => None,
+    }
+}
 
 /// Returns `true` if `literal` ends where `rest` follows it. ` + 1`, `.max()` and `..` may follow
 /// `2`, but `.5`, `_x`, `e+` and `3` may not.
@@ -35,10 +130,7 @@ pub(crate) fn ends_suffix(suffix: &str, rest: &str) -> bool
     ensures { result ≡ ends_suffix (chars suffix.now) (chars rest.now) }
 {
     let none = is_empty(suffix);
-    match split_first_char(rest) {
-        Some((c, _)) => !is_of_suffix(none, c),
-        None => true,
-    }
+    !matches!(split_first_char(rest), Some((c, _)) if is_of_suffix(none, c))
 }
 
 /// Returns `true` if `c` would be part of the suffix, or begin one if there is `none`.
@@ -56,17 +148,8 @@ fn is_of_suffix(none: bool, c: char) -> bool
 pub(crate) fn ends_bool(rest: &str) -> bool
     ensures { result ≡ ends_bool (chars rest.now) }
 {
-    match split_first_char(rest) {
-        Some((c, _)) => !is_xid_continue(c) && !is_quote_or_hash(c),
-        None => true,
-    }
-}
-
-/// Returns `true` if `c` is `"`, `'` or `#`.
-fn is_quote_or_hash(c: char) -> bool
-    ensures { result ≡ is_quote_or_hash c }
-{
-    c == '"' || c == '\'' || c == '#'
+    !matches!(split_first_char(rest), Some((c, _))
+        if is_xid_continue(c) || c == '"' || c == '\'' || c == '#')
 }
 
 /// Returns `true` if `lit` ends where `rest` follows it.
@@ -88,30 +171,21 @@ pub(crate) fn ends_float(lit: &FloatLit<&str>, rest: &str) -> bool
 fn is_bare(lit: &FloatLit<&str>) -> bool
     ensures { result ≡ is_bare (float_parts lit.now).fraction }
 {
-    match lit.fractional_part() {
-        Some(fraction) => is_empty(fraction),
-        None => false,
-    }
+    matches!(lit.fractional_part(), Some(fraction) if is_empty(fraction))
 }
 
 /// Returns `true` if `text` starts with a period.
 pub(crate) fn begins_with_period(text: &str) -> bool
     ensures { result ≡ first_passes is_period (chars text.now) }
 {
-    match split_first_char(text) {
-        Some((c, _)) => c == '.',
-        None => false,
-    }
+    matches!(split_first_char(text), Some((c, _)) if c == '.')
 }
 
 /// Returns `true` if `text` starts with a period that an integer before it would take.
 fn gives_period(text: &str) -> bool
     ensures { result ≡ gives_period (chars text.now) }
 {
-    match split_first_char(text) {
-        Some((c, after)) => c == '.' && !keeps_period(after),
-        None => false,
-    }
+    matches!(split_first_char(text), Some((c, after)) if c == '.' && !keeps_period(after))
 }
 
 /// Returns `true` if a period before `text` does not belong to a number, as `text` starts with
@@ -119,8 +193,5 @@ fn gives_period(text: &str) -> bool
 pub(crate) fn keeps_period(text: &str) -> bool
     ensures { result ≡ keeps_period (chars text.now) }
 {
-    match split_first_char(text) {
-        Some((c, _)) => c == '.' || begins_name(c),
-        None => false,
-    }
+    matches!(split_first_char(text), Some((c, _)) if c == '.' || begins_name(c))
 }

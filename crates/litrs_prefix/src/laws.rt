@@ -1,5 +1,5 @@
 //! Laws of the literal at the front of a text.
-ghost use Rattle.litrs_prefix.specs.Laws.{LiteralsAreTheirPrefix, PrefixesStay, PrefixesAreUnique, PrefixesOpen, MalformedAreUnique, MalformedStay};
+ghost use Rattle.litrs_prefix.specs.Words.{LiteralsAreTheirPrefix, PrefixesStay, PrefixesAreUnique, PrefixesOpen, MalformedAreUnique, MalformedStay};
 
 /// Proves that a text that is a literal has that literal at its front, with an empty rest.
 #[tactic(auto, using(crate::proofs::LongerTexts::whole))]

@@ -29,23 +29,15 @@
 //! ```
 #![tactic(auto)]
 
-ghost use Rattle.std.specs.Prelude.{◌≡◌, ◌⊎◌, IfOk, IfErr, IfSome, IfNone, IsTrue, IsFalse, length, drop, ◌++◌, ◌<◌, ◌≤◌};
-ghost use Rattle.std.specs.Str.{chars, IsCharBoundary};
-ghost use Rattle.litrs.specs.LiteralDerivation.{literal_raw, derivation};
-ghost use Rattle.litrs_prefix.specs.Malformed.{IsMalformedOrOutOfMemory, IsMovedBy, IsMarkedAt};
-ghost use Rattle.litrs_prefix.specs.Extent.{IsLiteralLen, IsMalformedLen};
-ghost use Rattle.litrs_prefix.specs.Opens.{opens};
-ghost use Rattle.litrs_prefix.specs.Prefix.{HasPrefix};
+ghost use Rattle.litrs_prefix.specs.Words.{◌≡◌, ◌⊎◌, IfOk, IfErr, IfSome, IfNone, IsTrue, IsFalse, length, drop, ◌++◌, ◌<◌, ◌≤◌, chars, IsCharBoundary, literal_raw, derivation, IsMalformedOrOutOfMemory, IsMovedBy, IsMarkedAt, IsLiteralLen, IsMalformedLen, opens, HasPrefix, ◌+◌, ◌^◌, marked_at};
 
 pub use extent::{opened_extent, opened_len, prefix_len};
 pub use follow::may_follow;
-pub use going_on::prefix_goes_on;
 use litrs::{Literal, ParseError};
 use litrs_base::split_first_char;
 pub use malformed::after_opened;
-pub use may_change::{is_open_front, prefix_may_change};
-pub use name::{after_name, after_run, begins_name};
-pub use opening::opens;
+pub use may_change::{is_open_front, prefix_goes_on, prefix_may_change};
+pub use opening::{after_name, after_run, begins_name, opens};
 use plain::plain_string;
 use std::alloc::Global;
 use std::ops::Range;
@@ -53,13 +45,10 @@ pub use until::parse_until;
 
 mod extent;
 mod follow;
-mod going_on;
 pub mod laws;
 mod malformed;
 mod may_change;
-mod name;
 mod opening;
-mod piece;
 mod plain;
 mod until;
 
@@ -82,9 +71,6 @@ pub struct MalformedPrefix {
 }
 
 impl MalformedPrefix {
-    ghost use Rattle.std.specs.Prelude.{◌≡◌, ◌+◌, ◌<◌, ◌^◌};
-    ghost use Rattle.litrs_prefix.specs.Malformed.{marked_at};
-
     /// Returns the part of the source to mark, in bytes: the character span of the error, or the
     /// malformed prefix if the error has none.
     ///
@@ -94,10 +80,7 @@ impl MalformedPrefix {
         requires { start + self.now.len < 2 ^ 64 }
         ensures { result ≡ marked_at start self.now }
     {
-        match self.error.char_span() {
-            Some(span) => span,
-            None => start..start + self.len,
-        }
+        self.error.char_span().unwrap_or(start..start + self.len)
     }
 }
 
@@ -165,8 +148,7 @@ pub fn next_boundary(text: &str, start: usize) -> usize
     ensures end { length text.now ≤ start → result ≡ start }
     ensures rest { chars (drop result text.now) ≡ drop 1 (chars (drop start text.now)) }
 {
-    let (_, rest) = text.split_at(start);
-    match split_first_char(rest) {
+    match split_first_char(&text[start..]) {
         Some((_, after)) => text.len() - after.len(),
         None => start,
     }
@@ -194,8 +176,7 @@ pub fn parse_prefix_at(
     ensures malformed { IfErr result (IsMovedBy start (chars (drop start source.now))) }
     ensures marks { IfErr result (IsMarkedAt start source.now) }
 {
-    let (_, text) = source.split_at(start);
-    match parse_prefix(alloc, text) {
+    match parse_prefix(alloc, &source[start..]) {
         Ok(found) => Ok(found),
         Err(malformed) => Err(MalformedPrefix {
             error: malformed.error.offset_span(start),

@@ -1,11 +1,9 @@
 //! The extent of a literal that may be malformed.
-ghost use Rattle.std.specs.Prelude.{◌≡◌, ◌≤◌, ℕ, length, drop};
-ghost use Rattle.std.specs.Str.{chars};
-ghost use Rattle.litrs_prefix.specs.Ends.{IsEndOf, after_digits, after_exponent, after_fraction, after_sign};
-ghost use Rattle.litrs_prefix.specs.Meant.{after_quoted, after_single_quote, after_char, after_closing, after_raw, after_prefixed, after_number, after_body, after_opened};
+ghost use Rattle.litrs_prefix.specs.Words.{◌≡◌, ◌≤◌, ℕ, length, drop, chars, IsEndOf, after_digits, after_exponent, after_fraction, after_sign, after_quoted, after_single_quote, after_char, after_closing, after_raw, after_prefixed, after_number, after_body, after_opened};
 
-use crate::name::{after_hashes, after_name};
-use crate::opening::{begins_with_single_quote, opens_bytes, opens_c_string, opens_raw};
+use crate::opening::{
+    after_hashes, after_name, begins_with_single_quote, opens_bytes, opens_c_string, opens_raw,
+};
 use litrs_base::{IntegerBase, split_first_char};
 use litrs_lex::hashes::{hash_len, is_inner_quote};
 use litrs_lex::{Run, Special, next_special, run_end};
@@ -23,24 +21,13 @@ fn after_body(text: &str) -> &str
     ensures { chars result.now ≡ after_body (chars text.now) }
 {
     match split_first_char(text) {
-        Some((c, rest)) => {
-            if c.is_ascii_digit() {
-                after_number(text)
-            } else if c == '"' {
-                after_quoted(rest)
-            } else if c == '\'' {
-                after_char(rest)
-            } else if c == 'r' && opens_raw(rest) {
-                after_raw(rest)
-            } else if c == 'b' && opens_bytes(rest) {
-                after_prefixed(rest)
-            } else if c == 'c' && opens_c_string(rest) {
-                after_prefixed(rest)
-            } else {
-                text
-            }
-        }
-        None => text,
+        Some((c, _)) if c.is_ascii_digit() => after_number(text),
+        Some((c, rest)) if c == '"' => after_quoted(rest),
+        Some((c, rest)) if c == '\'' => after_char(rest),
+        Some((c, rest)) if c == 'r' && opens_raw(rest) => after_raw(rest),
+        Some((c, rest)) if c == 'b' && opens_bytes(rest) => after_prefixed(rest),
+        Some((c, rest)) if c == 'c' && opens_c_string(rest) => after_prefixed(rest),
+        _ => text,
     }
 }
 
@@ -49,21 +36,16 @@ fn after_prefixed(text: &str) -> &str
     ensures { chars result.now ≡ after_prefixed (chars text.now) }
 {
     match split_first_char(text) {
-        Some((c, rest)) => {
-            if c == '"' {
-                after_quoted(rest)
-            } else if c == '\'' {
-                after_char(rest)
-            } else {
-                after_raw(rest)
-            }
-        }
+        Some((c, rest)) if c == '"' => after_quoted(rest),
+        Some((c, rest)) if c == '\'' => after_char(rest),
+        Some((_, rest)) => after_raw(rest),
         None => text,
     }
 }
 
 /// Returns the part of `text` after the parts of a float: digits, a period and more digits, an
 /// exponent. The prefix of an integer and its digits are left for the suffix.
+#[tactic(auto, using(crate::proofs::Meant::number_parts))]
 fn after_number(text: &str) -> &str
     ensures { chars result.now ≡ after_number (chars text.now) }
 {
@@ -75,9 +57,7 @@ pub(crate) fn after_digits(text: &str) -> &str
     ensures rest { chars result.now ≡ after_digits (chars text.now) }
     ensures end { IsEndOf text.now result.now }
 {
-    let digits = run_end(text.as_bytes(), Run::Digits(IntegerBase::Decimal));
-    let (_, rest) = text.split_at(digits);
-    rest
+    &text[run_end(text.as_bytes(), Run::Digits(IntegerBase::Decimal))..]
 }
 
 /// Returns the part of `text` after the period at its front and the digits after that.
@@ -85,8 +65,8 @@ fn after_fraction(text: &str) -> &str
     ensures { chars result.now ≡ after_fraction (chars text.now) }
 {
     match split_first_char(text) {
-        Some((c, rest)) => if c == '.' { after_digits(rest) } else { text },
-        None => text,
+        Some((c, rest)) if c == '.' => after_digits(rest),
+        _ => text,
     }
 }
 
@@ -95,12 +75,8 @@ fn after_exponent(text: &str) -> &str
     ensures { chars result.now ≡ after_exponent (chars text.now) }
 {
     match split_first_char(text) {
-        Some((c, rest)) => if c == 'e' || c == 'E' {
-            after_digits(after_sign(rest))
-        } else {
-            text
-        },
-        None => text,
+        Some((c, rest)) if c == 'e' || c == 'E' => after_digits(after_sign(rest)),
+        _ => text,
     }
 }
 
@@ -109,8 +85,8 @@ fn after_sign(text: &str) -> &str
     ensures { chars result.now ≡ after_sign (chars text.now) }
 {
     match split_first_char(text) {
-        Some((c, rest)) => if c == '+' || c == '-' { rest } else { text },
-        None => text,
+        Some((c, rest)) if c == '+' || c == '-' => rest,
+        _ => text,
     }
 }
 
@@ -120,12 +96,8 @@ fn after_char(text: &str) -> &str
     ensures { chars result.now ≡ after_char (chars text.now) }
 {
     match split_first_char(text) {
-        Some((c, rest)) => if c != '\\' && begins_with_single_quote(rest) {
-            after_first(rest)
-        } else {
-            after_single_quote(text)
-        },
-        None => text,
+        Some((c, rest)) if c != '\\' && begins_with_single_quote(rest) => after_first(rest),
+        _ => after_single_quote(text),
     }
 }
 
@@ -136,21 +108,17 @@ fn after_single_quote(text: &str) -> &str
 {
     let mut rest = text;
     let mut escaped = false;
-    loop {
-        match split_first_char(rest) {
-            Some((c, after)) => {
-                if c == '\n' {
-                    return rest;
-                }
-                if c == '\'' && !escaped {
-                    return after;
-                }
-                escaped = c == '\\' && !escaped;
-                rest = after;
-            }
-            None => return rest,
+    while let Some((c, after)) = split_first_char(rest) {
+        if c == '\n' {
+            return rest;
         }
+        if c == '\'' && !escaped {
+            return after;
+        }
+        escaped = c == '\\' && !escaped;
+        rest = after;
     }
+    rest
 }
 
 /// Returns the part of `text` after the first `"` that no backslash escapes.
@@ -159,18 +127,14 @@ fn after_quoted(text: &str) -> &str
 {
     let mut rest = text;
     let mut escaped = false;
-    loop {
-        match split_first_char(rest) {
-            Some((c, after)) => {
-                if c == '"' && !escaped {
-                    return after;
-                }
-                escaped = c == '\\' && !escaped;
-                rest = after;
-            }
-            None => return rest,
+    while let Some((c, after)) = split_first_char(rest) {
+        if c == '"' && !escaped {
+            return after;
         }
+        escaped = c == '\\' && !escaped;
+        rest = after;
     }
+    rest
 }
 
 /// Returns the part of `text`, which starts with the hashes of a raw string, after its closing.
@@ -188,16 +152,13 @@ fn after_closing(text: &str, hashes: usize) -> &str
     let mut rest = text;
     loop {
         let stop = from_quote(rest);
-        match split_first_char(stop) {
-            Some((c, after)) => {
-                if c == '"' && !is_inner_quote(stop.as_bytes(), hashes) {
-                    let (_, next) = after.split_at(hashes);
-                    return next;
-                }
-                rest = after;
-            }
-            None => return stop,
+        let Some((c, after)) = split_first_char(stop) else {
+            return stop;
+        };
+        if c == '"' && !is_inner_quote(stop.as_bytes(), hashes) {
+            return &after[hashes..];
         }
+        rest = after;
     }
 }
 
@@ -212,8 +173,7 @@ fn from_quote(text: &str) -> &str
         nul: false,
         non_ascii: false,
     };
-    let (_, rest) = text.split_at(next_special(text.as_bytes(), 0, what));
-    rest
+    &text[next_special(text.as_bytes(), 0, what)..]
 }
 
 /// Returns the part of `text` after its first character.

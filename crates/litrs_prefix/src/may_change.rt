@@ -1,16 +1,10 @@
-//! The texts whose answer by `parse_prefix` more text can change.
-ghost use Rattle.std.specs.Prelude.{◌≡◌, IsTrue, IsFalse};
-ghost use Rattle.std.specs.Str.{chars};
-ghost use Rattle.litrs_prefix.specs.MayChange.{AnswerStays, AnswerChanges, OpensNever, OpensLater, is_open_prefix, is_open_front, is_quoted_line_feed};
-ghost use Rattle.litrs_prefix.specs.Opens.{opens};
-ghost use Rattle.litrs_prefix.specs.Prefix.{HasNoPrefix};
+//! The texts to which more text may give a literal, or another answer of `parse_prefix`.
+ghost use Rattle.litrs_prefix.specs.Words.{◌≡◌, IsTrue, IsFalse, chars, AnswerStays, AnswerChanges, OpensNever, OpensLater, is_open_prefix, is_open_front, is_quoted_line_feed, opens, ◌↔◌, IsIntegerAndPeriod, PrefixGoesOn};
 
 use crate::extent::prefix_len;
-use crate::going_on::prefix_goes_on;
 use crate::malformed::after_opened;
-use crate::name::{after_hashes, after_name, is_empty};
-use crate::opening::opens;
-use litrs::goes_on;
+use crate::opening::{after_hashes, after_name, is_empty, opens};
+use litrs::{IntegerLit, goes_on};
 use litrs_base::split_first_char;
 
 /// Returns `true` if [`parse_prefix`](crate::parse_prefix) has another answer for some longer text.
@@ -30,7 +24,9 @@ pub fn prefix_may_change(text: &str) -> bool
     }
     match prefix_len(text) {
         Some(len) => len == text.len(),
-        None => malformed_may_change(text),
+        None => {
+            prefix_goes_on(text) || (is_empty(after_opened(text)) || is_quoted_line_feed(text))
+        }
     }
 }
 
@@ -68,23 +64,37 @@ fn is_open_prefix(text: &str) -> bool
     }
 }
 
-/// Returns `true` if the answer for `text`, at whose front a malformed literal is, changes with
-/// more text.
-fn malformed_may_change(text: &str) -> bool
-    requires opens { IsTrue (opens (chars text.now)) }
-    requires none { HasNoPrefix (chars text.now) }
-    ensures stays { IsFalse result → AnswerStays (chars text.now) }
-    ensures changes { IsTrue result → AnswerChanges (chars text.now) }
-{
-    if prefix_goes_on(text) {
-        return true;
-    }
-    is_empty(after_opened(text)) || is_quoted_line_feed(text)
-}
-
 /// Returns `true` if `text` is `'` or `b'`, and a line feed.
 fn is_quoted_line_feed(text: &str) -> bool
     ensures { result ≡ is_quoted_line_feed (chars text.now) }
 {
     text == "'\n" || text == "b'\n"
+}
+
+/// Returns `true` if `text` or a longer text has a literal at its front, and none with a rest is
+/// there yet.
+///
+/// It is `true` for the empty text, `12`, `tru`, `1.`, `1e+`, `"a`, `'a` and `0x1.`, and `false`
+/// for `12 `, `1..`, `true"`, `foo`, `0b12` and `"\q`. If it is `false`, more text gives no
+/// literal, or keeps the one that is there. More text may still make a malformed literal of a
+/// lifetime, or change a malformed literal: [`prefix_may_change`](crate::prefix_may_change) says if
+/// it can. The call does not allocate.
+pub fn prefix_goes_on(text: &str) -> bool
+    ensures { IsTrue result ↔ PrefixGoesOn (chars text.now) }
+{
+    goes_on(text) || is_integer_and_period(text)
+}
+
+/// Returns `true` if `text` is an integer without suffix and one period. It is a float, or none, as
+/// `0x1.` is, and `0x1..` has an integer at its front.
+fn is_integer_and_period(text: &str) -> bool
+    ensures { IsTrue result ↔ IsIntegerAndPeriod (chars text.now) }
+{
+    match text.strip_suffix(".") {
+        Some(front) => match IntegerLit::parse(front) {
+            Ok(lit) => is_empty(lit.suffix()),
+            Err(_) => false,
+        },
+        None => false,
+    }
 }

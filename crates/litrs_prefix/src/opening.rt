@@ -1,13 +1,9 @@
-//! Tests whether a literal begins at the front of a text.
-ghost use Rattle.std.specs.Prelude.{◌≡◌, Bool, length, IsTrue, IsFalse, IfSome, IfNone};
-ghost use Rattle.std.specs.Str.{chars};
-ghost use Rattle.litrs_base.specs.Text.{begins_with, first_passes};
-ghost use Rattle.litrs_grammar.specs.Bool.{bool_text, is_bool};
-ghost use Rattle.litrs_grammar.specs.Raw.{is_quote};
-ghost use Rattle.litrs_prefix.specs.Opens.{first_name, begins_lifetime, is_single_quote, opens_raw, opens_c_string, opens_bytes, opens};
+//! Tests whether a literal begins at the front of a text, and the names there.
+ghost use Rattle.litrs_prefix.specs.Words.{◌≡◌, Bool, length, IsTrue, IsFalse, IfSome, IfNone, chars, begins_with, first_passes, bool_text, is_bool, is_quote, first_name, begins_lifetime, is_single_quote, opens_raw, opens_c_string, opens_bytes, opens, nat_le, is_xid_continue, is_empty, starts_identifier, IsEndOf, after_run, after_name, after_hashes};
 
-use crate::name::{after_hashes, after_name, begins_name, continues_name};
 use litrs_base::split_first_char;
+use litrs_lex::{Run, run_end};
+use unicode_ident::{is_xid_continue, is_xid_start};
 
 /// Returns `true` if a literal begins at the front of `text`, by its first characters. It does in
 /// `12abc`, `0b12`, `"a`, `b'`, `r#"` and `true`, but not in `abc`, `r#a`, `'a, 'b`, `trueish` and
@@ -33,30 +29,22 @@ pub fn opens(text: &str) -> bool
 fn begins_lifetime(text: &str) -> bool
     ensures { result ≡ begins_lifetime (chars text.now) }
 {
-    match split_first_char(text) {
-        Some((c, _)) => begins_name(c) && !begins_with_single_quote(after_name(text)),
-        None => false,
-    }
+    matches!(split_first_char(text), Some((c, _)) if begins_name(c))
+        && !begins_with_single_quote(after_name(text))
 }
 
 /// Returns `true` if `text` starts with `'`.
 pub fn begins_with_single_quote(text: &str) -> bool
     ensures { result ≡ first_passes is_single_quote (chars text.now) }
 {
-    match split_first_char(text) {
-        Some((c, _)) => c == '\'',
-        None => false,
-    }
+    matches!(split_first_char(text), Some((c, _)) if c == '\'')
 }
 
 /// Returns `true` if `text` starts with `"`.
 pub fn begins_with_quote(text: &str) -> bool
     ensures { result ≡ first_passes is_quote (chars text.now) }
 {
-    match split_first_char(text) {
-        Some((c, _)) => c == '"',
-        None => false,
-    }
+    matches!(split_first_char(text), Some((c, _)) if c == '"')
 }
 
 /// Returns `true` if `text` starts with hashes and `"`, as after the `r` of a raw string.
@@ -80,10 +68,7 @@ pub fn opens_bytes(text: &str) -> bool
 pub fn opens_c_string(text: &str) -> bool
     ensures { result ≡ opens_c_string (chars text.now) }
 {
-    match split_first_char(text) {
-        Some((c, rest)) => c == '"' || (c == 'r' && opens_raw(rest)),
-        None => false,
-    }
+    matches!(split_first_char(text), Some((c, rest)) if c == '"' || (c == 'r' && opens_raw(rest)))
 }
 
 /// Returns `true` if the name at the front of `text` is a bool.
@@ -91,10 +76,7 @@ fn opens_bool(text: &str) -> bool
     ensures { result ≡ is_bool (first_name (chars text.now)) }
 {
     match bool_len(text) {
-        Some(len) => {
-            let (_, rest) = text.split_at(len);
-            !continues_name(rest)
-        }
+        Some(len) => !continues_name(&text[len..]),
         None => false,
     }
 }
@@ -111,5 +93,85 @@ pub fn bool_len(text: &str) -> Option<usize>
         [b't', b'r', b'u', b'e', ..] => Some(4),
         [b'f', b'a', b'l', b's', b'e', ..] => Some(5),
         _ => None,
+    }
+}
+
+/// Returns `true` if a name may begin with `c`.
+pub fn begins_name(c: char) -> bool
+    ensures { result ≡ starts_identifier c }
+{
+    c == '_' || is_xid_start(c)
+}
+
+/// Returns `true` if `text` starts with a character that can continue a name.
+pub fn continues_name(text: &str) -> bool
+    ensures { result ≡ first_passes is_xid_continue (chars text.now) }
+{
+    matches!(split_first_char(text), Some((c, _)) if is_xid_continue(c))
+}
+
+/// Returns `true` if `text` is empty.
+pub fn is_empty(text: &str) -> bool
+    ensures { result ≡ is_empty (chars text.now) }
+{
+    text.is_empty()
+}
+
+/// Returns the part of `text` after the name at its front: all of it if it starts with none.
+pub fn after_name(text: &str) -> &str
+    ensures rest { chars result.now ≡ after_name (chars text.now) }
+    ensures end { IsEndOf text.now result.now }
+{
+    match split_first_char(text) {
+        Some((c, after)) if begins_name(c) => after_run(after),
+        _ => text,
+    }
+}
+
+/// Returns the part of `text` after the characters at its front that can continue a name. ASCII
+/// characters are passed by their bytes.
+pub fn after_run(text: &str) -> &str
+    ensures rest { chars result.now ≡ after_run (chars text.now) }
+    ensures end { IsEndOf text.now result.now }
+{
+    let rest = &text[run_end(text.as_bytes(), Run::Identifier)..];
+    if starts_beyond_ascii(rest) {
+        after_any_run(rest)
+    } else {
+        rest
+    }
+}
+
+/// Returns `true` if `text` starts with a character that is not ASCII.
+pub fn starts_beyond_ascii(text: &str) -> bool
+    ensures { result ≡ first_passes (nat_le 128) text.now }
+{
+    matches!(text.as_bytes(), [first, ..] if *first >= 128)
+}
+
+/// Like [`after_run`], but reads character by character.
+fn after_any_run(text: &str) -> &str
+    ensures rest { chars result.now ≡ after_run (chars text.now) }
+    ensures end { IsEndOf text.now result.now }
+{
+    let mut rest = text;
+    loop {
+        match split_first_char(rest) {
+            Some((c, after)) if is_xid_continue(c) => rest = after,
+            _ => return rest,
+        }
+    }
+}
+
+/// Returns the part of `text` after the hashes at its front.
+pub fn after_hashes(text: &str) -> &str
+    ensures { chars result.now ≡ after_hashes (chars text.now) }
+{
+    let mut rest = text;
+    loop {
+        match split_first_char(rest) {
+            Some((c, after)) if c == '#' => rest = after,
+            _ => return rest,
+        }
     }
 }

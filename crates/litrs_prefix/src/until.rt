@@ -1,11 +1,5 @@
 //! The literal before a delimiter.
-ghost use Rattle.std.specs.Prelude.{◌≡◌, ◌-◌, drop, length, take, IfOk, IfErr};
-ghost use Rattle.std.specs.Str.{chars, IsCharBoundary, drop_trailing_whitespace};
-ghost use Rattle.litrs.specs.Literal.{IsLiteral};
-ghost use Rattle.litrs.specs.LiteralDerivation.{literal_raw, derivation};
-ghost use Rattle.litrs_prefix.specs.Ends.{IsEndOf};
-ghost use Rattle.litrs_prefix.specs.Malformed.{IsMarkedAt};
-ghost use Rattle.litrs_prefix.specs.Until.{is_delimiter, from_first, from_delimiter, before_delimiter, StartsWithDelimiter, IsRefusedUntil};
+ghost use Rattle.litrs_prefix.specs.Words.{◌≡◌, drop, IfOk, IfErr, chars, IsCharBoundary, IsLiteral, literal_raw, derivation, IsEndOf, IsMarkedAt, is_delimiter, from_first, from_delimiter, before_delimiter, StartsWithDelimiter, IsRefusedUntil};
 
 use crate::malformed::after_opened;
 use crate::opening::opens;
@@ -52,9 +46,10 @@ pub fn parse_until<'a>(
         (before_delimiter (chars delimiters.now) (chars (drop start source.now)))) }
     ensures marks { IfErr result (IsMarkedAt start source.now) }
 {
-    let (_, text) = source.split_at(start);
+    let text = &source[start..];
     let rest = from_delimiter(text, delimiters);
-    let front = before(text, rest);
+    let (front, _) = text.split_at(text.len() - rest.len());
+    let front = front.trim_end();
     match Literal::parse(alloc, front) {
         Ok(literal) => Ok(Prefix { literal, rest }),
         Err(error) => Err(MalformedPrefix {
@@ -62,17 +57,6 @@ pub fn parse_until<'a>(
             len: front.len(),
         }),
     }
-}
-
-/// Returns the part of `text` before its end `rest`, without the white space at its end.
-fn before<'a>(text: &'a str, rest: &str) -> &'a str
-    requires { IsEndOf (chars text.now) (chars rest.now) }
-    ensures { chars result.now ≡ drop_trailing_whitespace
-        (take (length (chars text.now) - length (chars rest.now)) (chars text.now)) }
-{
-    let len = text.len() - rest.len();
-    let (front, _) = text.split_at(len);
-    front.trim_end()
 }
 
 /// Returns the part of `text` from the delimiter on.

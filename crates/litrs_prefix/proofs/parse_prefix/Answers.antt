@@ -1,7 +1,5 @@
 -- The text that is parsed is the literal at the front, valid or malformed.
-use Rattle.std.proofs.Common.{ℕ, List, ◌++◌, take, inl, inr, ap, ◌∙◌}
-use Rattle.std.proofs.lemmas.List.{take-append-drop}
-use Rattle.litrs.specs.LiteralDerivation.{derivation}
+use Rattle.litrs_prefix.proofs.Words.{ℕ, List, ◌++◌, take, inl, inr, ap, ◌∙◌, take-append-drop, derivation}
 use Rattle.litrs_prefix.proofs.Marks.{malformed_marks}
 use Rattle.litrs_prefix.proofs.Pieces.{front_found, front_refused}
 use Rattle.litrs_prefix.proofs.parse_prefix.Goals as goal

@@ -1,26 +1,20 @@
 -- The spans of an error lie in the source, and so do the moved ones.
-use Rattle.std.proofs.Common.{List, ℕ, refl, subst, sym, arith}
-use Rattle.std.specs.Str.{chars, IsUtf8}
-use Rattle.std.proofs.lemmas.Str.{IsUtf8-drop}
-use Rattle.litrs_prefix.specs.Malformed.{IsMalformedOrOutOfMemory}
+use Rattle.litrs_prefix.proofs.Words.{List, ℕ, refl, subst, arith, chars, IsMalformedOrOutOfMemory}
 use Rattle.litrs_prefix.proofs.Marks.{moved_marks}
 use Rattle.litrs_prefix.proofs.Pieces.{malformed_moves}
 use Rattle.litrs_prefix.proofs.parse_prefix_at.Goals as goal
 
 pub offset_span-requires : goal.offset_span-requires
 offset_span-requires c =
-    let source = c.args.source.now in
-    let text = c.split_at.result.1.now in
-    let utf8 : IsUtf8 text = subst (λ (l : List ℕ). IsUtf8 l) (sym c.split_at.ensures.back) (IsUtf8-drop source c.args.start c.utf8.source c.requires) in
-    let size = c.split_at.ensures.back_len in
-    malformed_moves text c.in-Err.malformed c.args.start utf8 (omega arith) c.in-Err.ensures.malformed
+    let size = c.range_from.ensures.len in
+    malformed_moves c.range_from.result.now c.in-Err.malformed c.args.start c.range_from.utf8 (omega arith) c.in-Err.ensures.malformed
 
 pub returns-in-Err-clause-marks : goal.returns-in-Err-clause-marks
 returns-in-Err-clause-marks c =
     let source = c.args.source.now in
     moved_marks source c.args.start _ c.utf8.source c.requires (record {
       of_text = c.in-Err.malformed;
-      malformed = subst (λ (l : List ℕ). IsMalformedOrOutOfMemory (chars l) c.in-Err.malformed) c.split_at.ensures.back c.in-Err.ensures.malformed;
+      malformed = subst (λ (l : List ℕ). IsMalformedOrOutOfMemory (chars l) c.in-Err.malformed) c.range_from.ensures.value c.in-Err.ensures.malformed;
       len = refl;
       refusal = c.offset_span.ensures.refusal;
       char_span = c.offset_span.ensures.char_span;

@@ -98,22 +98,22 @@ returns-in-Quoted-clause-refused g c =
     IfErr-weaker c.quoted_value.result _ _
     (λ e is. quoted_error c.args.kind c.args.input.now e c.utf8.input begins is) refused
 
-pub returns-in_err-place-in-Raw-clause-refused : goal.returns-in_err-place-in-Raw-clause-refused
-returns-in_err-place-in-Raw-clause-refused g c =
+pub returns-in_err-start_suffix-in-Raw-clause-refused : goal.returns-in_err-start_suffix-in-Raw-clause-refused
+returns-in_err-start_suffix-in-Raw-clause-refused g c =
     let seen = same_true the_type (search rules) _ c.args.kind (sym c.if-eq-2.ensures) in
     let same : c.in-Raw.found ≡ c.args.kind = cc in
     let begins = raw_by c.in-Raw.found c.args.kind c.args.front c.args.input.now c.requires.front c.in-Raw.is same in
-    let refused = rw (c.front_len-offset.ensures.raw, c.requires.same) at c.in_err-place-in-Raw.ensures.refused in
+    let refused = rw (c.front_len-offset.ensures.raw, c.requires.same) at c.in_err-start_suffix-in-Raw.ensures.refused in
     let p = err_from_is_err_and c.from_residual.result c.from_residual.ensures.1 in
     rw (p.1, p.2) (raw_error c.args.kind c.args.input.now _ c.utf8.input begins refused)
 
-pub returns-in_ok-place-in-Raw-clause-ok : goal.returns-in_ok-place-in-Raw-clause-ok
-returns-in_ok-place-in-Raw-clause-ok g c =
+pub returns-in_ok-start_suffix-in-Raw-clause-ok : goal.returns-in_ok-start_suffix-in-Raw-clause-ok
+returns-in_ok-start_suffix-in-Raw-clause-ok g c =
     let seen = same_true the_type (search rules) _ c.args.kind (sym c.if-eq-2.ensures) in
     let same : c.in-Raw.found ≡ c.args.kind = cc in
     let begins = raw_by c.in-Raw.found c.args.kind c.args.front c.args.input.now c.requires.front c.in-Raw.is same in
-    let ok = rw (c.front_len-offset.ensures.raw, c.requires.same) at c.in_ok-place-in-Raw.ensures.ok in
-    parsed_raw c.args.kind c.args.input.now c.in_ok-place-in-Raw.place c.in_ok-place-in-Raw.start_suffix c.utf8.input begins ok
+    let ok = rw (c.front_len-offset.ensures.raw, c.requires.same) at c.in_ok-start_suffix-in-Raw.ensures.ok in
+    parsed_raw c.args.kind c.args.input.now c.in_ok-start_suffix-in-Raw.place c.in_ok-start_suffix-in-Raw.start_suffix c.utf8.input begins ok
 
 pub returns-in-Empty-clause-refused : goal.returns-in-Empty-clause-refused
 returns-in-Empty-clause-refused g c =

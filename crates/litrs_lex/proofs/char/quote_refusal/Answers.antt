@@ -18,12 +18,22 @@ returns-then-begins_with_byte c =
       char_span = c.in_text.ensures.char_span;
     }
 
-pub returns-else-begins_with_byte : goal.returns-else-begins_with_byte
-returns-else-begins_with_byte c =
+pub returns-in-Char : goal.returns-in-Char
+returns-in-Char c =
     let same = rest_is c.as_bytes.result.now c.args.rest.now 1 c.as_bytes.ensures.value in
-    let is = c.new.ensures.refusal ∙ ap without_span c.empty_kind.ensures in
+    let is = c.new.ensures.refusal ∙ ap without_span (sym (ap empty_kind c.in-Char.is)) in
     record {
       table = empty_row c.args.kind c.args.rest.now c.utf8.rest c.requires (ap (first_passes (λ n. n == 39)) (sym same) ∙ sym c.if-begins_with_byte.ensures)
           ∙ ap Some (sym is);
       char_span = no_span _ c.new.result (empty_kind c.args.kind) is;
+    }
+
+pub returns-in-Byte : goal.returns-in-Byte
+returns-in-Byte c =
+    let same = rest_is c.as_bytes.result.now c.args.rest.now 1 c.as_bytes.ensures.value in
+    let is = c.new-in-Byte.ensures.refusal ∙ ap without_span (sym (ap empty_kind c.in-Byte.is)) in
+    record {
+      table = empty_row c.args.kind c.args.rest.now c.utf8.rest c.requires (ap (first_passes (λ n. n == 39)) (sym same) ∙ sym c.if-begins_with_byte.ensures)
+          ∙ ap Some (sym is);
+      char_span = no_span _ c.new-in-Byte.result (empty_kind c.args.kind) is;
     }

@@ -6,7 +6,7 @@ use Rattle.litrs_lex.proofs.char.read_item.Goals as goal
 
 pub returns-in_default-clause-refused : goal.returns-in_default-clause-refused
 returns-in_default-clause-refused c =
-    end_refused c.args.kind c.args.rest.now c.new.result (none_first c.args.rest.now c.as_bytes.result.now c.as_bytes.ensures.value c.in_default.ensures.value) (c.new.ensures.refusal ∙ ap without_span c.unterminated_kind.ensures)
+    end_refused c.args.kind c.args.rest.now c.new.result (none_first c.args.rest.now c.as_bytes.result.now c.as_bytes.ensures.value c.in_default.ensures.value) (c.new.ensures.refusal ∙ ap without_span c.unclosed_kind.ensures)
 
 pub unescape_with-requires : goal.unescape_with-requires
 unescape_with-requires c = slash_begins c.args.rest.now c.utf8.rest (begins_get c.args.rest.now c.as_bytes.result.now 92 c.as_bytes.ensures.value (ap Some (sym c.in-92.is) ∙ c.in-Some.ensures.value))

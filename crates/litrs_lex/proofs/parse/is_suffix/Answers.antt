@@ -6,8 +6,8 @@ use Rattle.litrs_base.proofs.Chars.{chars_empty}
 use Rattle.litrs_lex.proofs.SuffixBytes.{is_suffix-nil, is_suffix-cons}
 use Rattle.litrs_lex.proofs.parse.is_suffix.Goals as goal
 
-pub returns-in-None : goal.returns-in-None
-returns-in-None c = sym (ap is_suffix c.in-None.ensures.empty ∙ is_suffix-nil)
+pub returns-in_default : goal.returns-in_default
+returns-in_default c = sym (ap is_suffix c.in_default.ensures.empty ∙ is_suffix-nil)
 
 pub returns-then-continues_identifier : goal.returns-then-continues_identifier
 returns-then-continues_identifier c =

@@ -14,21 +14,21 @@ overflow_add-bits g c =
 
 pub lowest_bit_place-requires : goal.lowest_bit_place-requires
 lowest_bit_place-requires g c =
-    let marks = loads_from (is_special c.args.what) c.args.bytes.now g.row.N c.args.from _ _ c.special_mask-first.ensures c.special_mask-last.ensures (omega arith) (omega arith) (omega arith) in
-    rest_within (is_special c.args.what) c.args.bytes.now c.args.from _ marks (omega arith) (omega arith)
+    let marks = loads_from (is_special c.args.what) c.args.bytes.now g.row.N c.args.start _ _ c.special_mask-first.ensures c.special_mask-last.ensures (omega arith) (omega arith) (omega arith) in
+    rest_within (is_special c.args.what) c.args.bytes.now c.args.start _ marks (omega arith) (omega arith)
 
-pub returns-clause-place : goal.returns-clause-place
-returns-clause-place g c =
-    let marks = loads_from (is_special c.args.what) c.args.bytes.now g.row.N c.args.from _ _ c.special_mask-first.ensures c.special_mask-last.ensures (omega arith) (omega arith) (omega arith) in
-    c.lowest_bit_place.ensures ∙ rest_ends (is_special c.args.what) c.args.bytes.now c.args.from _ marks (omega arith) (omega arith)
-
-pub returns-clause-mask : goal.returns-clause-mask
-returns-clause-mask g c =
+pub returns : goal.returns
+returns g c =
     let bytes = c.args.bytes.now in
-    let from = c.args.from in
-    let marks = loads_from (is_special c.args.what) bytes g.row.N from _ _ c.special_mask-first.ensures c.special_mask-last.ensures (omega arith) (omega arith) (omega arith) in record {
-      ordered = omega arith;
-      within = omega arith;
-      few = omega arith;
-      bits = marks ∙ ap (λ l. mask_l (map (is_special c.args.what) l)) (sym (take_all (length bytes - from) (drop from bytes) (omega (arith, length-drop from bytes))));
+    let from = c.args.start in
+    let marks = loads_from (is_special c.args.what) bytes g.row.N from _ _ c.special_mask-first.ensures c.special_mask-last.ensures (omega arith) (omega arith) (omega arith) in
+    let place = c.lowest_bit_place.ensures ∙ rest_ends (is_special c.args.what) bytes from _ marks (omega arith) (omega arith) in record {
+      place = place;
+      after = omega (arith, place);
+      mask = record {
+        ordered = omega arith;
+        within = omega arith;
+        few = omega arith;
+        bits = marks ∙ ap (λ l. mask_l (map (is_special c.args.what) l)) (sym (take_all (length bytes - from) (drop from bytes) (omega (arith, length-drop from bytes))));
+      };
     }

@@ -1,9 +1,5 @@
 -- The piece that opens is the literal, or the malformed prefix, or shorter than it.
-use Rattle.std.proofs.Common.{◌≡◌, ℕ, List, Some, None, true, drop, sym, ◌∙◌}
-use Rattle.std.specs.Str.{chars}
-use Rattle.std.proofs.lemmas.Bool.{true≢false}
-use Rattle.litrs_prefix.specs.Ends.{IsOnlyRest}
-use Rattle.litrs_prefix.specs.Meant.{after_opened}
+use Rattle.litrs_prefix.proofs.Words.{ℕ, List, Some, None, drop, sym, ◌∙◌, chars, IsOnlyRest, after_opened}
 use Rattle.litrs_prefix.proofs.Judged.{judged_prefix, judged_none, malformed_piece}
 use Rattle.litrs_prefix.proofs.MeantEnds.{OpenedAt, opened_at}
 use Rattle.litrs_prefix.proofs.extent.judged_extent.Goals as goal
@@ -18,11 +14,11 @@ overflow_sub-len c = (opened_at c.args.text.now c.after_opened.result.now c.utf8
 pub split_at-requires : goal.split_at-requires
 split_at-requires c = (opened_at c.args.text.now c.after_opened.result.now c.utf8.text c.after_opened.utf8 c.requires.opens c.after_opened.ensures).1.boundary
 
-pub returns-then-ends-clause-literal : goal.returns-then-ends-clause-literal
-returns-then-ends-clause-literal c =
+pub returns-in-Some-true-clause-literal : goal.returns-in-Some-true-clause-literal
+returns-in-Some-true-clause-literal c =
     let at = (opened_at c.args.text.now c.after_opened.result.now c.utf8.text c.after_opened.utf8 c.requires.opens c.after_opened.ensures).1 in
     let split = c.split_at.ensures in
-    judged_prefix c.args.text.now c.split_at.result.0.now c.split_at.result.1.now _ c.in-Some.ends c.utf8.text at.boundary split.front split.back c.in-Some.ensures c.if-ends.true
+    judged_prefix c.args.text.now c.split_at.result.0.now c.split_at.result.1.now _ c.in-Some-true.field-0 c.utf8.text at.boundary split.front split.back c.in-Some-true.ensures (cc)
 
 pub malformed_len-requires : goal.malformed_len-requires
 malformed_len-requires c =
@@ -33,8 +29,7 @@ malformed_len-requires c =
       some = at.some;
       meant = at.meant;
       opens = c.requires.opens;
-      none = judged_none c.args.text.now c.split_at.result.0.now c.split_at.result.1.now _ (Some c.in-Some.ends) c.utf8.text at.boundary split.front split.back (only_here _ _ at c.requires.only) c.in-Some.ensures
-          (λ e. let same : c.in-Some.ends ≡ true = cc in true≢false (sym same ∙ c.if-ends.false));
+      none = judged_none c.args.text.now c.split_at.result.0.now c.split_at.result.1.now _ (Some c.in-Some-false.field-0) c.utf8.text at.boundary split.front split.back (only_here _ _ at c.requires.only) c.in-Some-false.ensures (λ e. cc);
     }
 
 pub returns-in-None-clause-malformed : goal.returns-in-None-clause-malformed

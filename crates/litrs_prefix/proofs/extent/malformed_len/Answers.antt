@@ -1,9 +1,6 @@
 -- The whole text is not a literal, so some piece is not one.
-use Rattle.std.proofs.Common.{◌≡◌, ◌<◌, ◌≤◌, ℕ, List, [], length, subst, inl, inr, arith, ◌∙◌}
-use Rattle.std.specs.Str.{chars}
+use Rattle.litrs_prefix.proofs.Words.{◌≡◌, ◌<◌, ◌≤◌, ℕ, List, [], length, refl, subst, inl, inr, arith, ◌∙◌, chars, take_all, IsLiteral}
 use Rattle.std.proofs.Math.Nat.{eq-or-lt_of_le}
-use Rattle.std.proofs.lemmas.List.{take_all}
-use Rattle.litrs_grammar.specs.Literal.{IsLiteral}
 use Rattle.litrs_prefix.proofs.Judged.{malformed_piece}
 use Rattle.litrs_prefix.proofs.LongerTexts.{whole}
 use Rattle.litrs_prefix.proofs.Pieces.{meant_next}
@@ -11,9 +8,8 @@ use Rattle.litrs_prefix.proofs.extent.malformed_len.Goals as goal
 
 pub returns-in-None : goal.returns-in-None
 returns-in-None c =
-    let split = c.split_at.ensures in
     let inv = c.loop-len.invariant in
-    malformed_piece c.args.text.now c.split_at.result.0.now c.split_at.result.1.now c.loop-len.len c.utf8.text inv.0 split.front split.back inv.2 inv.1 c.requires.opens c.requires.none c.in-None.ensures
+    malformed_piece c.args.text.now c.split_at.result.0.now _ c.loop-len.len c.utf8.text inv.0 c.split_at.ensures.front refl inv.2 inv.1 c.requires.opens c.requires.none c.in-None.ensures
 
 pub loop-len-preserved : goal.loop-len-preserved
 loop-len-preserved c =

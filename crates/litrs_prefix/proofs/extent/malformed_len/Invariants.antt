@@ -1,7 +1,5 @@
 -- The piece ends at a character, and each shorter one from what opens on is a literal.
-use Rattle.std.proofs.Common.{◌-◌, ◌<◌, length, take}
-use Rattle.std.specs.Str.{chars, IsCharBoundary}
-use Rattle.litrs_prefix.specs.Meant.{IsMeant}
+use Rattle.litrs_prefix.proofs.Words.{◌-◌, ◌<◌, length, take, chars, IsCharBoundary, IsMeant}
 use Rattle.litrs_prefix.proofs.extent.malformed_len.Given as goal
 
 abbrev pub invariant-loop-len : goal.invariant-loop-len

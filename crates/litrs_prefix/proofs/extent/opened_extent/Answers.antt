@@ -1,30 +1,26 @@
--- The beginning of the text decides.
-use Rattle.std.proofs.Common.{sym, ap, ◌∙◌}
-use Rattle.std.specs.Char.{is_ascii_digit}
-use Rattle.std.specs.Str.{chars}
-use Rattle.litrs_base.specs.Text.{first_passes}
-use Rattle.litrs_prefix.proofs.Ends.{all, after_first}
-use Rattle.litrs_prefix.proofs.Extents.{only_other, only_nothing}
+-- A text that does not begin with a digit has one end.
+use Rattle.litrs_prefix.proofs.Words.{refl, sym, ap, ◌∙◌, chars, bool_text, a_bool, ends_bool}
+use Rattle.litrs_prefix.proofs.NumberEnds.{only_unless_digit}
+use Rattle.litrs_prefix.proofs.Runs.{bool_front}
 use Rattle.litrs_prefix.proofs.extent.opened_extent.Goals as goal
 
-pub number_extent-requires-clause-digit : goal.number_extent-requires-clause-digit
-number_extent-requires-clause-digit c = ap (first_passes is_ascii_digit) c.in-Some.ensures.parts ∙ (sym c.is_ascii_digit.ensures.value ∙ c.if-is_ascii_digit.true)
-
-pub quoted_extent-requires-clause-end : goal.quoted_extent-requires-clause-end
-quoted_extent-requires-clause-end c = after_first c.args.text.now c.args.text.now c.in-Some.body.now c.in-Some.c (all c.args.text.now) c.in-Some.ensures.bytes
-
-pub char_extent-requires-clause-end : goal.char_extent-requires-clause-end
-char_extent-requires-clause-end c = after_first c.args.text.now c.args.text.now c.in-Some.body.now c.in-Some.c (all c.args.text.now) c.in-Some.ensures.bytes
-
-pub raw_extent-requires-clause-end : goal.raw_extent-requires-clause-end
-raw_extent-requires-clause-end c = after_first c.args.text.now c.args.text.now c.in-Some.body.now c.in-Some.c (all c.args.text.now) c.in-Some.ensures.bytes
-
-pub bytes_extent-requires-clause-end : goal.bytes_extent-requires-clause-end
-bytes_extent-requires-clause-end c = after_first c.args.text.now c.args.text.now c.in-Some.body.now c.in-Some.c (all c.args.text.now) c.in-Some.ensures.bytes
-
-pub bool_extent-requires-clause-only : goal.bool_extent-requires-clause-only
-bool_extent-requires-clause-only c =
-    only_other c.in-Some.c (chars c.args.text.now) (chars c.in-Some.body.now) c.in-Some.ensures.parts (sym c.is_ascii_digit.ensures.value ∙ c.if-is_ascii_digit.false)
-
 pub judged_extent-requires-clause-only : goal.judged_extent-requires-clause-only
-judged_extent-requires-clause-only c = only_nothing (chars c.args.text.now) c.in-None.ensures.empty
+judged_extent-requires-clause-only c = only_unless_digit (chars c.args.text.now) (sym c.begins_with_digit.ensures ∙ c.if-begins_with_digit.false)
+
+pub range_from-requires : goal.range_from-requires
+range_from-requires c = λ _. let is = c.in-Some.ensures.some in (bool_front c.args.text.now is.0 c.in-Some.len c.utf8.text is.1 is.2).0
+
+pub returns-in-Some-clause-literal : goal.returns-in-Some-clause-literal
+returns-in-Some-clause-literal c =
+    let is = c.in-Some.ensures.some in
+    let front = bool_front c.args.text.now is.0 c.in-Some.len c.utf8.text is.1 is.2 in
+    record {
+      boundary = front.0;
+      literal = a_bool is.0;
+      at_front = record {
+        front = bool_text is.0;
+        spells = front.1;
+        literal = refl;
+        follows = ap (λ l. ends_bool (chars l)) (sym c.range_from.ensures.value) ∙ (sym c.ends_bool.ensures ∙ c.if-ends_bool.true);
+      };
+    }

@@ -1,7 +1,5 @@
 -- A literal at the front opens there.
-use Rattle.std.proofs.Common.{sym, ◌∙◌}
-use Rattle.std.proofs.lemmas.Bool.{true≢false}
-use Rattle.std.specs.Str.{chars}
+use Rattle.litrs_prefix.proofs.Words.{sym, ◌∙◌, true≢false, chars}
 use Rattle.litrs_prefix.proofs.Opened.{opened}
 use Rattle.litrs_prefix.proofs.extent.prefix_len.Goals as goal
 

@@ -1,19 +1,11 @@
 -- A quote and the hashes close the body; else what follows its first character has the same closing.
-use Rattle.std.proofs.Common.{◌≡◌, ℕ, ◌+◌, ◌<◌, [], ◌∷◌, suc, true, false, length, drop, sym, ap, ◌∙◌, arith}
-use Rattle.std.proofs.lemmas.List.{drop_all}
-use Rattle.std.specs.Str.{chars}
-use Rattle.std.proofs.lemmas.Bool.{ne_eqb, and_left}
-use Rattle.std.proofs.lemmas.Str.{IsCharBoundary-from_drop}
-use Rattle.litrs_base.specs.Text.{begins_with}
-use Rattle.litrs_grammar.specs.Raw.{raw_closing, hashes}
-use Rattle.litrs_prefix.specs.Meant.{after_closing}
-use Rattle.litrs_prefix.proofs.Ends.{shorter}
+use Rattle.litrs_prefix.proofs.Words.{◌≡◌, ℕ, ◌+◌, [], ◌∷◌, suc, true, false, drop, sym, ap, ◌∙◌, arith, drop_all, chars, ne_eqb, and_left, IsCharBoundary-from_drop, begins_with, raw_closing, hashes, after_closing}
 use Rattle.litrs_prefix.proofs.Meant.{closing_here, closing_later, quote_hashes, hashes_front, hashes_chars}
 use Rattle.litrs_prefix.proofs.malformed.after_closing.Goals.{else-c-eq34-via-then-c-eq34+else-not-is_inner_quote, else-c-eq34-via-else-c-eq34}
 use Rattle.litrs_prefix.proofs.malformed.after_closing.Goals as goal
 
-pub split_at-requires : goal.split_at-requires
-split_at-requires c =
+pub range_from-requires : goal.range_from-requires
+range_from-requires c = λ _.
     let after = c.in-Some.after.now in
     let n = c.args.hashes in
     let here = quote_hashes n c.as_bytes.result.now c.from_quote-stop.result.now after c.in-Some.c false c.as_bytes.ensures.value c.in-Some.ensures.bytes c.if-c-eq34.true
@@ -32,7 +24,7 @@ returns-then-not-is_inner_quote c =
     let one : 1 + n ≡ suc n = omega arith in
     let closed : after_closing n (34 ∷ chars after) ≡ drop n (chars after) =
     closing_here n (34 ∷ chars after) (hashes_chars n after c.in-Some.ensures.rest ∙ here) ∙ ap (λ (k : ℕ). drop k (34 ∷ chars after)) one in
-    ap chars c.split_at.ensures.back ∙ (sym front.rest ∙ (sym closed ∙ (ap (after_closing n) (sym rest) ∙ (c.from_quote-stop.ensures.closing n ∙ c.loop-c.invariant.1))))
+    ap chars c.range_from.ensures.value ∙ (sym front.rest ∙ (sym closed ∙ (ap (after_closing n) (sym rest) ∙ (c.from_quote-stop.ensures.closing n ∙ c.loop-c.invariant.1))))
 
 pub loop-c-preserved : goal.loop-c-preserved
 loop-c-preserved c =
@@ -49,16 +41,10 @@ loop-c-preserved c =
       sym (ap (after_closing n) c.in-Some.ensures.parts ∙ closing_later n c.in-Some.c (chars after) passed) ∙ (c.from_quote-stop.ensures.closing n ∙ c.loop-c.invariant.1),
     )
 
-pub loop-c-smaller : goal.loop-c-smaller
-loop-c-smaller c =
-    let less : length c.in-Some.after.now < length c.from_quote-stop.result.now = shorter c.from_quote-stop.result.now c.in-Some.c c.in-Some.after.now c.in-Some.ensures.bytes in
-    let within = c.from_quote-stop.ensures.shorter in
-    omega arith
-
 nothing : (n : ℕ) → after_closing n [] ≡ []
 nothing n = drop_all _ [] (omega arith)
 
-pub returns-in-None : goal.returns-in-None
-returns-in-None c =
+pub returns-in_default : goal.returns-in_default
+returns-in_default c =
     let n = c.args.hashes in
-    c.in-None.ensures.empty ∙ (sym (nothing n) ∙ (ap (after_closing n) (sym c.in-None.ensures.empty) ∙ (c.from_quote-stop.ensures.closing n ∙ c.loop-c.invariant.1)))
+    c.in_default.ensures.empty ∙ (sym (nothing n) ∙ (ap (after_closing n) (sym c.in_default.ensures.empty) ∙ (c.from_quote-stop.ensures.closing n ∙ c.loop-c.invariant.1)))

@@ -1,9 +1,5 @@
 -- The text after the first closing of the rest is that of the text.
-use Rattle.std.proofs.Common.{◌≡◌, length}
-use denote.Text.{Utf8}
-use denote.Shadow.{shadow}
-use Rattle.std.specs.Str.{chars}
-use Rattle.litrs_prefix.specs.Meant.{after_closing}
+use Rattle.litrs_prefix.proofs.Words.{◌≡◌, length, Utf8, shadow, chars, after_closing}
 use Rattle.litrs_prefix.proofs.malformed.after_closing.Given as goal
 
 abbrev pub invariant-loop-c : goal.invariant-loop-c

@@ -1,9 +1,5 @@
 -- The hashes are counted in bytes.
-use Rattle.std.proofs.Common.{◌≡◌, ℕ, drop, sym, ap, ◌∙◌}
-use Rattle.std.specs.Str.{chars}
-use Rattle.litrs_base.proofs.Chars.{prefix_len-chars}
-use Rattle.litrs_grammar.specs.Raw.{is_hash, hash_len}
-use Rattle.litrs_prefix.specs.Meant.{after_closing}
+use Rattle.litrs_prefix.proofs.Words.{◌≡◌, ℕ, drop, sym, ap, ◌∙◌, chars, prefix_len-chars, is_hash, hash_len, after_closing}
 use Rattle.litrs_prefix.proofs.Meant.{hash_is_ascii}
 use Rattle.litrs_prefix.proofs.malformed.after_raw.Goals as goal
 
@@ -14,4 +10,4 @@ returns c =
     c.hash_len-hashes.ensures.len ∙ (ap hash_len c.as_bytes.ensures.value ∙ sym (prefix_len-chars is_hash text hash_is_ascii c.utf8.text)) in
     c.after_closing.ensures
     ∙ (ap (λ (n : ℕ). after_closing n (chars c.after_first.result.now)) count
-    ∙ ap (after_closing (hash_len (chars text))) (c.after_first.ensures ∙ ap (drop 1) c.after_hashes.ensures.rest))
+    ∙ ap (after_closing (hash_len (chars text))) (c.after_first.ensures ∙ ap (drop 1) c.after_hashes.ensures))

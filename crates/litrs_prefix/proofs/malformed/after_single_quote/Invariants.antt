@@ -1,10 +1,5 @@
 -- The text after the closing of the rest is that after the closing of the text.
-use Rattle.std.proofs.Common.{◌≡◌, length}
-use denote.Text.{Utf8}
-use denote.Shadow.{shadow}
-use Rattle.std.specs.Str.{chars}
-use Rattle.litrs_prefix.specs.Ends.{past_single_quote}
-use Rattle.litrs_prefix.specs.Meant.{after_single_quote}
+use Rattle.litrs_prefix.proofs.Words.{◌≡◌, length, Utf8, shadow, chars, past_single_quote, after_single_quote}
 use Rattle.litrs_prefix.proofs.malformed.after_single_quote.Given as goal
 
 abbrev pub invariant-loop-c : goal.invariant-loop-c

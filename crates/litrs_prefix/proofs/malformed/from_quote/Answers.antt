@@ -1,16 +1,8 @@
 -- No closing begins at a character that is passed.
-use Rattle.std.proofs.Common.{◌≡◌, ◌≤◌, ℕ, ◌+◌, Bool, List, [], ◌∷◌, ◌++◌, true, false, drop, refl, sym, ap, subst, ◌∙◌, arith}
-use Rattle.std.specs.Prelude.{◌==◌}
-use Rattle.std.specs.List.{list_all, prefix_len}
-use Rattle.std.specs.Str.{chars, IsCharBoundary}
-use Rattle.std.proofs.lemmas.Bool.{and_parts, and_left, ne_eqb, true≢false}
+use Rattle.litrs_prefix.proofs.Words.{◌≡◌, ◌≤◌, ℕ, ◌+◌, Bool, List, [], ◌∷◌, ◌++◌, true, false, drop, refl, sym, ap, subst, ◌∙◌, arith, ◌==◌, list_all, prefix_len, chars, IsCharBoundary, and_parts, and_left, ne_eqb, true≢false, IsCharBoundary-from_drop, raw_special, after_closing, after_bytes, not_longer}
 use Rattle.std.proofs.lemmas.Bool.Decides.{nat_tests}
-use Rattle.std.proofs.lemmas.Str.{IsCharBoundary-from_drop}
-use Rattle.litrs_lex.specs.RawCut.{raw_special}
 use Rattle.litrs_lex.specs.Special.{is_ordinary}
 use Rattle.litrs_lex.proofs.PlainRuns.{char_run}
-use Rattle.litrs_prefix.specs.Meant.{after_closing}
-use Rattle.litrs_prefix.proofs.Ends.{after_bytes, not_longer}
 use Rattle.litrs_prefix.proofs.Meant.{closing_later}
 use Rattle.litrs_prefix.proofs.malformed.from_quote.Goals as goal
 
@@ -34,8 +26,8 @@ place_is k bytes text h same =
     let zero : 0 + prefix_len passes text ≡ prefix_len passes text = omega arith in
     h ∙ (ap (λ (l : List ℕ). 0 + prefix_len passes l) same ∙ zero)
 
-pub split_at-requires : goal.split_at-requires
-split_at-requires c =
+pub range_from-requires : goal.range_from-requires
+range_from-requires c = λ _.
     let text = c.args.text.now in
     let is : c.next_special.result ≡ prefix_len passes text = place_is c.next_special.result c.as_bytes.result.now text c.next_special.ensures.place c.as_bytes.ensures.value in
     let run = char_run passes true wide text c.utf8.text in
@@ -46,8 +38,8 @@ returns-clause-closing c = λ n.
     let text = c.args.text.now in
     let is : c.next_special.result ≡ prefix_len passes text = place_is c.next_special.result c.as_bytes.result.now text c.next_special.ensures.place c.as_bytes.ensures.value in
     let run = char_run passes true wide text c.utf8.text in
-    ap (λ (l : List ℕ). after_closing n (chars l)) (c.split_at.ensures.back ∙ ap (λ (k : ℕ). drop k text) is)
+    ap (λ (l : List ℕ). after_closing n (chars l)) (c.range_from.ensures.value ∙ ap (λ (k : ℕ). drop k text) is)
     ∙ (sym (skipped n run.run (chars (drop (prefix_len passes text) text)) run.passes) ∙ ap (after_closing n) run.split)
 
 pub returns-clause-shorter : goal.returns-clause-shorter
-returns-clause-shorter c = not_longer c.args.text.now c.split_at.result.1.now (after_bytes c.args.text.now c.split_at.result.1.now c.next_special.result c.split_at.ensures.back)
+returns-clause-shorter c = not_longer c.args.text.now c.range_from.result.now (after_bytes c.args.text.now c.range_from.result.now c.next_special.result c.range_from.ensures.value)

@@ -1,7 +1,5 @@
 -- A literal that is incomplete, or a front that is open, decides.
-use Rattle.std.proofs.Common.{sym, ◌∙◌}
-use Rattle.std.specs.Str.{chars}
-use Rattle.std.proofs.lemmas.Bool.{true≢false}
+use Rattle.litrs_prefix.proofs.Words.{sym, ◌∙◌, chars, true≢false}
 use Rattle.litrs_prefix.proofs.MayChange.{begins_later, front_later, opens_never}
 use Rattle.litrs_prefix.proofs.may_change.may_open.Goals as goal
 

@@ -1,13 +1,6 @@
 -- The kind of text that begins at the front decides.
-use Rattle.std.proofs.Common.{◌≡◌, ◌≤◌, ℕ, List, [], ◌∷◌, drop, length, false, refl, sym, ap, subst, ◌∙◌, arith}
-use Rattle.std.specs.Str.{chars, IsUtf8}
-use Rattle.std.proofs.lemmas.Bool.{eqb-true, eq-eqb, true≢false}
-use Rattle.std.proofs.lemmas.List.{drop_all, length-drop}
-use Rattle.std.proofs.lemmas.Str.{chars-nil, encodes-chars, IsUtf8-drop}
-use Rattle.std.specs.Prelude.{encode_utf8_all, nat_eq}
-use Rattle.litrs_prefix.specs.MayChange.{AnswerStays}
-use Rattle.litrs_prefix.specs.Prefix.{HasPrefix}
-use Rattle.litrs_prefix.proofs.MayChange.{none_stays, none_changes, literal_stays, literal_changes}
+use Rattle.litrs_prefix.proofs.Words.{◌≡◌, ◌≤◌, ℕ, List, [], ◌∷◌, drop, length, false, refl, sym, ap, subst, ◌∙◌, arith, chars, IsUtf8, eqb-true, eq-eqb, true≢false, drop_all, length-drop, chars-nil, encodes-chars, IsUtf8-drop, encode_utf8_all, nat_eq, is_empty, AnswerStays, HasPrefix}
+use Rattle.litrs_prefix.proofs.MayChange.{none_stays, none_changes, literal_stays, literal_changes, malformed_stays, malformed_completes, malformed_reaches_end, malformed_line_feed}
 use Rattle.litrs_prefix.proofs.may_change.prefix_may_change.Goals as goal
 
 nothing_left : (bs : List ℕ) (n : ℕ) → n ≤ length bs → IsUtf8 (drop n bs) → chars (drop n bs) ≡ [] → n ≡ length bs
@@ -40,3 +33,21 @@ returns-in-Some-clause-changes c = λ all.
     let is = c.in-Some.ensures.literal in
     let end : drop c.in-Some.len text ≡ [] = drop_all c.in-Some.len text (let same = eqb-true c.in-Some.len (length text) all in omega arith) in
     literal_changes (chars text) is.0 (subst (λ (l : List ℕ). HasPrefix (chars text) is.0 l) (ap chars end ∙ chars-nil) is.1)
+
+pub returns-then-prefix_goes_on-clause-changes : goal.returns-then-prefix_goes_on-clause-changes
+returns-then-prefix_goes_on-clause-changes c = λ more.
+    malformed_completes (chars c.args.text.now) (sym c.opens.ensures ∙ c.if-not-opens.false) c.in-None.ensures.none (c.prefix_goes_on.ensures.0 more)
+
+pub returns-then-is_empty-clause-changes : goal.returns-then-is_empty-clause-changes
+returns-then-is_empty-clause-changes c = λ all.
+    malformed_reaches_end (chars c.args.text.now) (sym c.opens.ensures ∙ c.if-not-opens.false) c.in-None.ensures.none (ap is_empty (sym c.after_opened.ensures) ∙ (sym c.is_empty.ensures ∙ all))
+
+pub returns-else-is_empty-clause-stays : goal.returns-else-is_empty-clause-stays
+returns-else-is_empty-clause-stays c = λ other.
+    malformed_stays (chars c.args.text.now) (sym c.opens.ensures ∙ c.if-not-opens.false) c.in-None.ensures.none
+    (λ more. true≢false (sym (c.prefix_goes_on.ensures.1 more) ∙ c.if-prefix_goes_on.false))
+    (ap is_empty (sym c.after_opened.ensures) ∙ (sym c.is_empty.ensures ∙ c.if-is_empty.false)) (sym c.is_quoted_line_feed.ensures ∙ other)
+
+pub returns-else-is_empty-clause-changes : goal.returns-else-is_empty-clause-changes
+returns-else-is_empty-clause-changes c = λ is.
+    malformed_line_feed (chars c.args.text.now) (sym c.opens.ensures ∙ c.if-not-opens.false) c.in-None.ensures.none (sym c.is_quoted_line_feed.ensures ∙ is)

@@ -1,5 +1,5 @@
 -- A body begins at a character.
-use Rattle.std.proofs.lemmas.Str.{IsCharBoundary-start}
+use Rattle.litrs_prefix.proofs.Words.{IsCharBoundary-start}
 use Rattle.litrs_prefix.proofs.plain.items_len.Goals as goal
 
 pub items_end-requires : goal.items_end-requires

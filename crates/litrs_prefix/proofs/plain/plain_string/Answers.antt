@@ -1,6 +1,5 @@
 -- The string is the text up to the closing quote.
-use Rattle.std.proofs.Common.{List, ℕ, ◌++◌, ◌+◌, take, sym, ap, subst, ◌∙◌}
-use Rattle.std.proofs.lemmas.List.{take-append-drop}
+use Rattle.litrs_prefix.proofs.Words.{List, ℕ, ◌++◌, ◌+◌, take, sym, ap, subst, ◌∙◌, take-append-drop}
 use Rattle.litrs.specs.StringLiteral.{IsPlainString}
 use Rattle.litrs_prefix.proofs.PlainStrings as strings
 use Rattle.litrs_prefix.proofs.plain.plain_string.Goals as goal
@@ -9,23 +8,23 @@ pub plain_body_end-requires : goal.plain_body_end-requires
 plain_body_end-requires c = strings.opening c.args.text.now c.utf8.text (sym c.begins_with_quote.ensures ∙ c.if-not-begins_with_quote.false)
 
 pub split_at-requires : goal.split_at-requires
-split_at-requires c = (strings.piece c.args.text.now c.in-Some.quote c.utf8.text (sym c.begins_with_quote.ensures ∙ c.if-not-begins_with_quote.false) c.in-Some.ensures.some).0
+split_at-requires c = (strings.piece c.args.text.now c.in_ok-quote.quote c.utf8.text (sym c.begins_with_quote.ensures ∙ c.if-not-begins_with_quote.false) c.in_ok-quote.ensures.some).0
 
 pub plain-requires : goal.plain-requires
 plain-requires c =
     subst IsPlainString (sym c.split_at.ensures.front)
-    (strings.piece c.args.text.now c.in-Some.quote c.utf8.text (sym c.begins_with_quote.ensures ∙ c.if-not-begins_with_quote.false) c.in-Some.ensures.some).1
+    (strings.piece c.args.text.now c.in_ok-quote.quote c.utf8.text (sym c.begins_with_quote.ensures ∙ c.if-not-begins_with_quote.false) c.in_ok-quote.ensures.some).1
 
-pub returns-then-ends_name-clause-spells : goal.returns-then-ends_name-clause-spells
-returns-then-ends_name-clause-spells c =
+pub returns-clause-spells : goal.returns-clause-spells
+returns-clause-spells c =
     let text = c.args.text.now in
-    let n = c.in-Some.quote + 1 in
+    let n = c.in_ok-quote.quote + 1 in
     ap (λ (l : List ℕ). l ++ c.split_at.result.1.now) (c.plain.ensures.raw ∙ c.split_at.ensures.front)
     ∙ (ap (λ (l : List ℕ). take n text ++ l) c.split_at.ensures.back ∙ take-append-drop n text)
 
-pub returns-then-ends_name-clause-found : goal.returns-then-ends_name-clause-found
-returns-then-ends_name-clause-found c =
+pub returns-clause-found : goal.returns-clause-found
+returns-clause-found c =
     let text = c.args.text.now in
-    let cut = strings.piece text c.in-Some.quote c.utf8.text (sym c.begins_with_quote.ensures ∙ c.if-not-begins_with_quote.false) c.in-Some.ensures.some in
-    strings.found text c.split_at.result.0.now c.split_at.result.1.now (c.in-Some.quote + 1) _ c.utf8.text cut.0 c.split_at.ensures.front c.split_at.ensures.back cut.1
-    c.plain.ensures.ok (c.ends_name.ensures c.if-ends_name.true)
+    let cut = strings.piece text c.in_ok-quote.quote c.utf8.text (sym c.begins_with_quote.ensures ∙ c.if-not-begins_with_quote.false) c.in_ok-quote.ensures.some in
+    strings.found text c.split_at.result.0.now c.split_at.result.1.now (c.in_ok-quote.quote + 1) _ c.utf8.text cut.0 c.split_at.ensures.front c.split_at.ensures.back cut.1
+    c.plain.ensures.ok (c.ends_name.ensures c.if-not-ends_name.false)

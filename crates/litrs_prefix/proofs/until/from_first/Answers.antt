@@ -1,13 +1,6 @@
 -- A character that is passed is not a delimiter.
-use Rattle.std.proofs.Common.{◌≡◌, Bool, List, ℕ, false, ◌∷◌, sym, ap, ◌∙◌}
-use Rattle.std.specs.Prelude.{if◌then◌else◌}
-use Rattle.std.specs.Str.{chars}
-use Rattle.litrs_prefix.specs.Until.{is_delimiter, from_first}
-use Rattle.litrs_prefix.proofs.Ends.{shorter}
+use Rattle.litrs_prefix.proofs.Words.{◌≡◌, Bool, List, ℕ, false, ◌∷◌, sym, ap, ◌∙◌, if◌then◌else◌, chars, is_delimiter, from_first}
 use Rattle.litrs_prefix.proofs.until.from_first.Goals as goal
-
-pub loop-c-smaller : goal.loop-c-smaller
-loop-c-smaller c = shorter c.loop-c.rest.now c.in-Some.c c.in-Some.after.now c.in-Some.ensures.bytes
 
 pub loop-c-preserved : goal.loop-c-preserved
 loop-c-preserved c =

@@ -1,9 +1,5 @@
 -- The rest has the same first delimiter as the text.
-use Rattle.std.proofs.Common.{◌≡◌, length}
-use Rattle.std.specs.Str.{chars}
-use denote.Text.{Utf8}
-use denote.Shadow.{shadow}
-use Rattle.litrs_prefix.specs.Until.{from_first}
+use Rattle.litrs_prefix.proofs.Words.{◌≡◌, length, chars, Utf8, shadow, from_first}
 use Rattle.litrs_prefix.proofs.until.from_first.Given as goal
 
 abbrev pub invariant-loop-c : goal.invariant-loop-c
