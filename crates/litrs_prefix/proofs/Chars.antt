@@ -1,12 +1,6 @@
 -- Chars, bytes and strings, and the rest before which they end.
 use Rattle.std.proofs.Common.{◌≡◌, ℕ, List, ◌∷◌, ◌++◌, sym, ap, ◌∙◌, append_assoc}
-use Rattle.litrs_base.specs.declared.quotes.CharKind.{CharKind}
-use Rattle.litrs_base.specs.Quotes.{char_front, raw_front}
-use Rattle.litrs_base.specs.declared.quotes.StringKind.{StringKind}
-use Rattle.litrs_grammar.specs.CharByte.{CharParts, char_item_text, IsCharLiteral}
-use Rattle.litrs_grammar.specs.Raw.{RawParts, IsRawLiteral, raw_closing, hashes}
-use Rattle.litrs_base.specs.declared.quotes.Switches.{Switches}
-use Rattle.litrs_grammar.specs.Quoted.{QuotedParts, IsQuoted, body_text}
+use Rattle.litrs_prefix.specs.Words.{char_front, raw_front, char_item_text, IsCharLiteral, RawParts, IsRawLiteral, raw_closing, hashes, Switches, IsQuoted, CharKind, StringKind, CharParts, QuotedParts, body_text}
 
 pub longer_char : (kind : CharKind) (s r : List ℕ) (d : CharParts) → IsCharLiteral kind s d →
     s ++ r ≡ char_front kind ++ (char_item_text d.item ++ 39 ∷ (d.suffix ++ r))

@@ -1,17 +1,10 @@
 -- The text before a delimiter is a front of the text.
 use Rattle.std.proofs.Common.{◌≡◌, ℕ, ◌+◌, ◌-◌, ◌≤◌, Bool, true, false, ◌&&◌, List, [], ◌∷◌, ◌++◌, length, take, drop, refl, sym, ap, ◌∙◌, append_assoc, length-append, arith}
-use Rattle.std.specs.Prelude.{◌==◌, if◌then◌else◌}
-use Rattle.std.specs.Char.{is_whitespace}
-use Rattle.std.specs.Str.{chars, IsUtf8, IsCharBoundary, drop_trailing_whitespace, trim_end}
+use Rattle.litrs_prefix.specs.Words.{◌==◌, if◌then◌else◌, chars, IsUtf8, IsCharBoundary, drop_trailing_whitespace, IsEndOf, IsMarkedAt, after_opened, opens, from_first, after_literal, from_delimiter, before_delimiter, StartsWithDelimiter, IsRefusedUntil, is_whitespace, MalformedPrefix}
+use Rattle.std.specs.Str.{trim_end}
 use Rattle.std.proofs.lemmas.List.{drop_at, take-append-drop, append_cancel_right}
 use Rattle.std.proofs.lemmas.Str.{chars_from_encodes}
 use Rattle.litrs_lex.proofs.CharCuts.{cut_at, byte_len-all}
-use Rattle.litrs_prefix.specs.declared.MalformedPrefix.{MalformedPrefix}
-use Rattle.litrs_prefix.specs.Ends.{IsEndOf}
-use Rattle.litrs_prefix.specs.Malformed.{IsMarkedAt}
-use Rattle.litrs_prefix.specs.Meant.{after_opened}
-use Rattle.litrs_prefix.specs.Opens.{opens}
-use Rattle.litrs_prefix.specs.Until.{from_first, after_literal, from_delimiter, before_delimiter, StartsWithDelimiter, IsRefusedUntil}
 use Rattle.litrs_prefix.proofs.Ends.{all as whole, end_of_end}
 use Rattle.litrs_prefix.proofs.Marks.{front_marks}
 use Rattle.litrs_prefix.proofs.MeantEnds.{EndsAt, ends_at, next, either, opened_piece}

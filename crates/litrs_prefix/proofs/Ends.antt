@@ -1,10 +1,8 @@
 -- Ends of texts, in bytes.
 use Rattle.std.proofs.Common.{◌≡◌, ℕ, ◌+◌, ◌-◌, ◌<◌, ◌≤◌, List, [], ◌++◌, length, take, drop, refl, sym, ap, subst, ◌∙◌, append_assoc, append-nil, length-append, arith}
-use Rattle.std.specs.Prelude.{encode_utf8, encode_utf8_all}
-use Rattle.std.specs.Str.{chars, IsUtf8, IsCharBoundary}
+use Rattle.litrs_prefix.specs.Words.{encode_utf8, encode_utf8_all, chars, IsUtf8, IsCharBoundary, IsEndOf}
 use Rattle.std.proofs.lemmas.List.{append_cancel_right, drop_at, take-append-drop}
 use Rattle.std.proofs.lemmas.Str.{chars-append, encodes-append, encodes-chars, length-encode, len_utf8_bounds, IsCharBoundary-from_drop, IsUtf8-take}
-use Rattle.litrs_prefix.specs.Ends.{IsEndOf}
 
 pub all : (t : List ℕ) → IsEndOf t t
 all t = ([], refl)

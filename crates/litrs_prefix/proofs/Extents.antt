@@ -1,24 +1,8 @@
 -- Extents of literals, valid or malformed, by what follows them.
 use Rattle.std.proofs.Common.{◌≡◌, ℕ, ◌-◌, ◌≤◌, true, false, List, [], ◌++◌, length, take, drop, None, refl, sym, ap, subst, ◌∙◌, arith}
-use Rattle.std.specs.Char.{is_ascii_digit}
-use Rattle.std.specs.List.{list_all}
-use Rattle.std.specs.Prelude.{ltb}
-use Rattle.std.specs.Str.{chars, IsUtf8}
+use Rattle.litrs_prefix.specs.Words.{is_ascii_digit, list_all, chars, IsUtf8, char_kind, byte_kind, char_front, quoted_front, raw_front, begins_with, first_passes, IsLiteral, HasLiteralBefore, IsOnlyRest, IsLiteralLen, IsMalformedLen, after_opened, opens, HasPrefix, ltb, HasNoDerivation, CharKind, StringKind, string_kind, byte_string_kind, c_string_kind}
 use Rattle.std.proofs.lemmas.List.{take_all, drop_all}
 use Rattle.std.proofs.lemmas.Str.{chars-nil, IsUtf8-nil}
-use Rattle.litrs_base.specs.Derivations.{HasNoDerivation}
-use Rattle.litrs_base.specs.declared.quotes.CharKind.{CharKind}
-use Rattle.litrs_base.specs.declared.quotes.CharKind.TheVariants.{Char as char_kind, Byte as byte_kind}
-use Rattle.litrs_base.specs.declared.quotes.StringKind.{StringKind}
-use Rattle.litrs_base.specs.declared.quotes.StringKind.TheVariants.{String as string_kind, ByteString as byte_string_kind, CString as c_string_kind}
-use Rattle.litrs_base.specs.Quotes.{char_front, quoted_front, raw_front}
-use Rattle.litrs_base.specs.Text.{begins_with, first_passes}
-use Rattle.litrs_grammar.specs.Literal.{IsLiteral}
-use Rattle.litrs_prefix.specs.Ends.{HasLiteralBefore, IsOnlyRest}
-use Rattle.litrs_prefix.specs.Extent.{IsLiteralLen, IsMalformedLen}
-use Rattle.litrs_prefix.specs.Meant.{after_opened}
-use Rattle.litrs_prefix.specs.Opens.{opens}
-use Rattle.litrs_prefix.specs.Prefix.{HasPrefix}
 use Rattle.litrs_prefix.proofs.Ends.{end_at, not_longer}
 use Rattle.litrs_prefix.proofs.Judged.{judged_none, malformed_piece}
 use Rattle.litrs_prefix.proofs.MeantEnds.{OpenedAt, opened_at}
@@ -48,12 +32,6 @@ whole_malformed bs u opens_at after digit invalid =
     malformed_piece bs bs [] (length bs) u all.boundary before left all.some all.meant opens_at none invalid
 
 -- no front of another kind than a number starts with a digit
-
-pub quoted_digit : (kind : StringKind) (t x : List ℕ) → t ≡ quoted_front kind ++ x → first_passes is_ascii_digit t ≡ false
-quoted_digit kind t x is = rw is (grind arith)
-
-pub raw_digit : (kind : StringKind) (t x : List ℕ) → t ≡ raw_front kind ++ x → first_passes is_ascii_digit t ≡ false
-raw_digit kind t x is = rw is (grind arith)
 
 -- the text after an ASCII front
 pub after_front : (word bs body : List ℕ) (n : ℕ) → list_all (λ c. ltb c 128) word ≡ true → IsUtf8 bs → begins_with word bs ≡ true → n ≡ length word → body ≡ drop n bs → chars bs ≡ word ++ chars body

@@ -1,36 +1,15 @@
 -- Decisions if a piece of a text is a literal, and if the rest may follow it.
 use Rattle.std.proofs.Common.{◌≡◌, inl, inr, ℕ, ◌<◌, Bool, true, false, List, ◌++◌, take, drop, Option, Some, None, refl, sym, ap, subst, ◌∙◌, arith}
-use Rattle.std.specs.Prelude.{◌&&◌, codes, if◌then◌else◌}
-use Rattle.std.specs.Str.{chars, IsUtf8, IsCharBoundary}
+use Rattle.litrs_prefix.specs.Words.{◌&&◌, codes, if◌then◌else◌, chars, IsUtf8, IsCharBoundary, quoted_front, raw_front, begins_with, char_kind, byte_kind, IsCharLiteral, IsFloatOf, IsIntegerOf, Derivation, a_bool, an_integer, a_float, a_char, a_byte, IsLiteral, begins_float, IsQuotedLiteral, RawParts, IsRawLiteral, IsFront, IsOnlyRest, IsLiteralLen, IsMalformedLen, IsJudged, IsJudgedBy, IsMeant, opens, may_follow, ends_bool, ends_suffix, ends_integer, ends_float, HasPrefix, HasNoPrefix, InvalidLiteral, IsOnlyDerivation, HasNoDerivation, without_span, StringKind, string_kind, byte_string_kind, c_string_kind, CharParts, a_string, a_byte_string, a_c_string, IsString, StringParts, quoted_parts, raw_parts, string_suffix, char_literal, byte_literal, c_string_literal, string_literal_of, literal_kind, Dispatch, refused_as, parsed_as, dispatch, QuotedParts, EndsBefore}
 use Rattle.std.proofs.lemmas.Bool.{true≢false, false≢true}
-use Rattle.litrs_base.specs.declared.err.ParseErrorKind.TheVariants.{InvalidLiteral}
-use Rattle.litrs_base.specs.Derivations.{IsOnlyDerivation, HasNoDerivation}
-use Rattle.litrs_base.specs.Quotes.{quoted_front, raw_front}
-use Rattle.litrs_base.specs.Refusal.{without_span}
-use Rattle.litrs_base.specs.Text.{begins_with}
-use Rattle.litrs_base.specs.declared.quotes.CharKind.TheVariants.{Char as char_kind, Byte as byte_kind}
-use Rattle.litrs_base.specs.declared.quotes.StringKind.{StringKind}
-use Rattle.litrs_base.specs.declared.quotes.StringKind.TheVariants.{String as string_kind, ByteString as byte_string_kind, CString as c_string_kind}
 use Rattle.litrs_base.proofs.Begins.{begins_with-split}
-use Rattle.litrs_grammar.specs.CharByte.{CharParts, IsCharLiteral}
-use Rattle.litrs_grammar.specs.Float.{IsFloatOf}
-use Rattle.litrs_grammar.specs.Integer.{IsIntegerOf}
-use Rattle.litrs_grammar.specs.Literal.{Derivation, a_bool, an_integer, a_float, a_char, a_byte, a_string, a_byte_string, a_c_string, IsLiteral, IsString, StringParts, quoted_parts, raw_parts, string_suffix, char_literal, byte_literal, c_string_literal, string_literal_of, literal_kind}
-use Rattle.litrs_grammar.specs.LiteralRefusals.{Dispatch, refused_as, parsed_as, begins_float, dispatch}
-use Rattle.litrs_grammar.specs.Quoted.{QuotedParts, IsQuotedLiteral}
-use Rattle.litrs_grammar.specs.Raw.{RawParts, IsRawLiteral}
 use Rattle.litrs_grammar.proofs.Laws.Bool.{chars-bool_text}
 use Rattle.litrs_grammar.proofs.Laws.Literal.{dispatch_literal, literals_are_unique}
 use Rattle.litrs_lex.specs.declared.kind.Front.{Front}
 use Rattle.litrs_lex.specs.declared.kind.Front.TheVariants as front
-use Rattle.litrs_lex.specs.Front.{row_of, IsFront}
+use Rattle.litrs_lex.specs.Front.{row_of}
 use Rattle.litrs_lex.proofs.Dispatch.{dispatch-chars}
 use Rattle.litrs_lex.proofs.StringFronts.{quoted_begins, raw_begins}
-use Rattle.litrs_prefix.specs.Ends.{EndsBefore, IsOnlyRest}
-use Rattle.litrs_prefix.specs.Extent.{IsLiteralLen, IsMalformedLen, IsJudged, IsJudgedBy}
-use Rattle.litrs_prefix.specs.Meant.{IsMeant}
-use Rattle.litrs_prefix.specs.Opens.{opens}
-use Rattle.litrs_prefix.specs.Prefix.{may_follow, ends_bool, ends_suffix, ends_integer, ends_float, HasPrefix, HasNoPrefix}
 use Rattle.litrs_prefix.proofs.Pieces.{parts_spell, piece_is}
 use Rattle.litrs_prefix.proofs.Unique.{number_kind}
 

@@ -1,8 +1,6 @@
 -- A literal at the front of a text, and of longer ones.
 use Rattle.std.proofs.Common.{◌≡◌, ℕ, true, List, ◌∷◌, ◌++◌, sym, ap, ◌∙◌, append_assoc, append-nil, arith}
-use Rattle.litrs_grammar.specs.Literal.{Derivation}
-use Rattle.litrs_prefix.specs.Prefix.{may_follow}
-use Rattle.litrs_prefix.specs.Laws.{LiteralsAreTheirPrefix, PrefixesStay}
+use Rattle.litrs_prefix.specs.Words.{Derivation, may_follow, LiteralsAreTheirPrefix, PrefixesStay}
 
 pub whole : LiteralsAreTheirPrefix
 whole t d h = record { front = t; spells = append-nil t; literal = h; follows = grind arith }

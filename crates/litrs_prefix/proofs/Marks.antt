@@ -1,21 +1,13 @@
 -- The bytes of the source can be cut at the places that an error at the front of a text marks.
 use Rattle.std.proofs.Common.{◌≡◌, ℕ, ◌+◌, ◌≤◌, List, ◌++◌, length, take, drop, Option, Some, None, IfSome, IsUtf8, inl, inr, refl, sym, ap, subst, ◌∙◌, length-drop, arith}
-use Rattle.std.specs.Prelude.{slice_index, option_map, unwrap_or}
-use Rattle.std.specs.Str.{chars, IsCharBoundary}
+use Rattle.litrs_prefix.specs.Words.{chars, IsCharBoundary, byte_len, literal_parse, IsMalformedOrOutOfMemory, IsMovedBy, IsMarkedAt, slice_index, option_map, unwrap_or, Refusal, char_span_of, refusal_of, shifted_span, ParseError, IsRefusedOrOutOfMemory, MalformedPrefix, prefix_span}
 use Rattle.std.specs.declared.ops.Range.{Range}
 use Rattle.std.proofs.lemmas.Bool.{cases_lt}
 use Rattle.std.proofs.lemmas.List.{get_or-take, length-take-le}
 use Rattle.std.proofs.lemmas.Str.{IsUtf8-drop, IsUtf8-take, IsCharBoundary-start, IsCharBoundary-from_rest}
 use Rattle.litrs_base.specs.CharEnd.{PointsAtCharacters, IsCutBy}
-use Rattle.litrs_base.specs.Refusal.{Refusal, char_span_of, refusal_of, shifted_span}
-use Rattle.litrs_base.specs.Text.{byte_len}
 use Rattle.litrs_base.proofs.CharEnds.{points_cut}
-use Rattle.litrs_base.specs.declared.err.ParseError.{ParseError}
-use Rattle.litrs_grammar.specs.Literal.{literal_parse}
-use Rattle.litrs_grammar.specs.Refused.{IsRefusedOrOutOfMemory}
 use Rattle.litrs_lex.proofs.CharCuts.{cut_at}
-use Rattle.litrs_prefix.specs.declared.MalformedPrefix.{MalformedPrefix}
-use Rattle.litrs_prefix.specs.Malformed.{IsMalformedOrOutOfMemory, IsMovedBy, prefix_span, IsMarkedAt}
 use Rattle.litrs_prefix.proofs.Ends.{front_is}
 
 -- a place of the front is a place of the text

@@ -1,28 +1,14 @@
 -- Answers that more text changes, and those that stay.
 use Rattle.std.proofs.Common.{◌≡◌, ◌⊎◌, inl, inr, eqb, ltb, ℕ, Bool, true, false, ◌||◌, List, [], ◌∷◌, ◌++◌, length, length-append, refl, sym, ap, subst, ◌∙◌, append_assoc, append-nil, arith}
-use Rattle.std.specs.Prelude.{codes}
-use Rattle.std.specs.Char.{is_ascii_digit}
-use Rattle.std.specs.List.{list_all}
-use Rattle.std.specs.Cmp.Lexicographic.{pointwise}
-use Rattle.std.specs.Str.{chars, IsUtf8}
+use Rattle.litrs_prefix.specs.Words.{codes, is_ascii_digit, list_all, chars, IsUtf8, first_passes, is_empty, bool_text, is_bool, Derivation, a_bool, literal_parse, is_quote, PrefixGoesOn, MalformedStay, AnswerStays, AnswerChanges, OpensNever, OpensLater, is_open_prefix, is_open_front, is_quoted_line_feed, after_opened, first_name, after_name, after_hashes, begins_lifetime, opens_raw, opens_bytes, opens_c_string, opens, may_follow, HasPrefix, HasNoPrefix, pointwise, is_scalar, IsText, is_text, Begins, first_run}
 use Rattle.litrs_base.proofs.Chars.{is_text-chars}
 use Rattle.std.proofs.lemmas.Bool.{and_parts, and_left, or_right, or_cases, cases_Bool, true≢false, false≢true, false_from_ne_true}
 use Rattle.std.proofs.lemmas.Bool.Decides.{nat_tests}
 use Rattle.std.proofs.lemmas.List.{append_cancel_left}
 use Rattle.std.proofs.lemmas.List.Folds.{list_all-append}
 use Rattle.unicode_ident.proofs.IdentLemmas.{is_xid_start-ascii}
-use Rattle.litrs_base.specs.Characters.{is_scalar}
-use Rattle.litrs_base.specs.Text.{IsText, first_passes, is_empty, is_text}
-use Rattle.litrs_grammar.specs.Bool.{bool_text, is_bool}
-use Rattle.litrs_grammar.specs.Literal.{Derivation, a_bool, literal_parse, Begins}
-use Rattle.litrs_grammar.specs.Raw.{is_quote}
 use Rattle.litrs_grammar.proofs.Laws.Literal.{is_text-is, some_bool}
-use Rattle.litrs_prefix.specs.GoesOn.{PrefixGoesOn}
-use Rattle.litrs_prefix.specs.Laws.{MalformedStay}
-use Rattle.litrs_prefix.specs.MayChange.{Answer, none, literal, malformed, IsMalformedFront, IsAnswer, AnswerStays, AnswerChanges, OpensNever, OpensLater, is_open_prefix, is_open_front, is_quoted_line_feed}
-use Rattle.litrs_prefix.specs.Meant.{after_opened}
-use Rattle.litrs_prefix.specs.Opens.{first_run, first_name, after_name, after_hashes, begins_lifetime, opens_raw, opens_bytes, opens_c_string, opens}
-use Rattle.litrs_prefix.specs.Prefix.{may_follow, HasPrefix, HasNoPrefix}
+use Rattle.litrs_prefix.specs.MayChange.{Answer, none, literal, malformed, IsMalformedFront, IsAnswer}
 use Rattle.litrs_prefix.proofs.Names.{quote_stops}
 use Rattle.litrs_prefix.proofs.LongerTexts.{whole, stays}
 use Rattle.litrs_prefix.proofs.Opened.{opened}

@@ -1,23 +1,16 @@
 -- The steps by which what was meant as a literal is passed over.
 use Rattle.std.proofs.Common.{◌≡◌, ℕ, zero, suc, ◌+◌, Bool, true, false, not, ◌&&◌, ltb, List, [], ◌∷◌, ◌++◌, take, drop, length, Option, Some, None, refl, sym, ap, subst, ◌∙◌, inl, inr, arith}
-use Rattle.std.specs.Prelude.{◌==◌, encode_utf8, if◌then◌else◌}
-use Rattle.std.specs.List.{list_all, prefix_len, after_first}
-use Rattle.std.specs.Str.{chars, IsUtf8}
+use Rattle.litrs_prefix.specs.Words.{◌==◌, encode_utf8, if◌then◌else◌, list_all, prefix_len, chars, IsUtf8, begins_with, first_passes, is_decimal_char, is_period, is_e, is_quote, is_hash, hashes, raw_closing, past_quote, past_single_quote, after_digits, after_fraction, after_exponent, after_sign, after_single_quote, after_number, after_closing, after_first, FloatParts, float_text, fraction_text, is_sign, sign_len}
 use Rattle.std.proofs.lemmas.Bool.{cases_Bool, and_parts}
 use Rattle.std.proofs.lemmas.Bool.Decides.{nat_tests}
 use Rattle.std.proofs.lemmas.List.{drop_at}
 use Rattle.std.proofs.lemmas.Str.{encode_ascii}
-use Rattle.litrs_base.specs.Text.{begins_with, first_passes}
 use Rattle.litrs_base.proofs.Chars.{OnlyAscii, IsAsciiFront, begins_with-chars, begins_front}
 use Rattle.litrs_base.proofs.ListTests.{if_true, if_false}
-use Rattle.litrs_grammar.specs.Float.{FloatParts, float_text, fraction_text, is_decimal_char, is_period, is_sign, sign_len}
-use Rattle.litrs_grammar.specs.Integer.{is_e}
-use Rattle.litrs_grammar.specs.Raw.{is_quote, is_hash, hashes, raw_closing}
 use Rattle.litrs_grammar.proofs.FloatCuts.{IsCut, cut_of, cut_of_text, after_decimals, letter_period, is_exponent_front, fraction_passes, exponent_stops}
 use Rattle.litrs_grammar.proofs.Laws.Integer.{prefix_len_front}
 use Rattle.litrs_grammar.proofs.RawCuts.{length-hashes}
-use Rattle.litrs_prefix.specs.Ends.{past_quote, past_single_quote, after_digits, after_fraction, after_exponent, after_sign}
-use Rattle.litrs_prefix.specs.Meant.{Symbol, lone, escaped, symbols, symbols_text, is_lone, after_quote, first_line, after_single_quote, after_number, after_closing}
+use Rattle.litrs_prefix.specs.Meant.{Symbol, lone, escaped, symbols, symbols_text, is_lone, after_quote, first_line}
 
 -- closings
 

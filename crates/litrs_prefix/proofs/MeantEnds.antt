@@ -1,30 +1,18 @@
 -- The text after the piece that begins at the front of a text is an end of the text, without its
 -- first character, and stays the same before more text.
 use Rattle.std.proofs.Common.{◌≡◌, ℕ, ◌-◌, ◌<◌, ◌≤◌, Bool, true, false, not, ◌&&◌, List, [], ◌∷◌, ◌++◌, take, drop, length, refl, sym, ap, subst, ◌∙◌, ◌+◌, length-append, arith, ◌⊎◌, inl, inr, zero, suc}
-use Rattle.std.specs.Prelude.{◌==◌, if◌then◌else◌, encode_utf8_all}
-use Rattle.std.specs.Char.{is_ascii_digit}
-use Rattle.std.specs.Str.{chars, IsUtf8, IsCharBoundary}
+use Rattle.litrs_prefix.specs.Words.{◌==◌, if◌then◌else◌, encode_utf8_all, is_ascii_digit, chars, IsUtf8, IsCharBoundary, byte_len, begins_with, first_passes, is_empty, is_decimal_char, starts_identifier, IsEndOf, past_quote, past_single_quote, after_digits, after_fraction, after_exponent, after_sign, after_quoted, after_single_quote, after_char, after_raw, after_prefixed, after_number, after_opened, IsMeant, after_closing, after_body, first_name, after_name, after_hashes, opens, after_run, is_single_quote, begins_lifetime, opens_raw, opens_bytes, opens_c_string, is_xid_continue, is_bool, is_quote, hash_len, raw_closing, is_quoted_line_feed, first_run}
 use Rattle.std.proofs.lemmas.Bool.{false≢true, and_right, true≢false}
 use Rattle.std.proofs.lemmas.Bool.Decides.{nat_tests}
 use Rattle.std.proofs.lemmas.List.{take-append-drop, drop_all}
 use Rattle.unicode_ident.proofs.IdentLemmas.{is_xid_start-ascii, is_xid_continue-ascii}
-use Rattle.litrs_base.specs.Text.{byte_len, begins_with, first_passes, is_empty}
 use Rattle.litrs_base.proofs.ListTests.{if_true, if_false}
-use Rattle.litrs_grammar.specs.Float.{is_decimal_char}
-use Rattle.litrs_grammar.specs.Suffix.{starts_identifier}
-use Rattle.litrs_prefix.specs.Ends.{IsEndOf, past_quote, past_single_quote, after_digits, after_fraction, after_exponent, after_sign}
-use Rattle.litrs_prefix.specs.Meant.{after_quoted, after_single_quote, after_char, after_raw, after_prefixed, after_number, after_opened, IsMeant, after_closing, after_body}
-use Rattle.litrs_prefix.specs.Opens.{first_run, first_name, after_name, after_hashes, opens, after_run, is_single_quote, begins_lifetime, opens_raw, opens_bytes, opens_c_string}
 use Rattle.litrs_prefix.proofs.Ends.{all as whole, bytes_spell, end_at, end_of_end, front_is, shorter}
 use Rattle.litrs_prefix.proofs.Meant.{number_parts, past_quote_is, past_single_quote_is, closing_here, closing_later}
 use Rattle.litrs_prefix.proofs.MeantPieces.{meant_first}
 use Rattle.litrs_prefix.proofs.Names.{name_and_rest, run_and_rest, Opening, opening}
 use Rattle.litrs_prefix.proofs.Names.Opening.{digit, double, single, raw, bytes, c_string, word_true, word_false}
-use Rattle.unicode_ident.specs.Ident.{is_xid_continue}
-use Rattle.litrs_grammar.specs.Bool.{is_bool}
-use Rattle.litrs_grammar.specs.Raw.{is_quote, hash_len, raw_closing}
 use Rattle.litrs_grammar.proofs.RawCuts.{length-hashes}
-use Rattle.litrs_prefix.specs.MayChange.{is_quoted_line_feed}
 
 -- of a text with one character more, one of two ends
 pub next : (c : ℕ) (t x : List ℕ) → IsEndOf t x → IsEndOf (c ∷ t) x

@@ -1,14 +1,8 @@
 -- The pieces at the front of a text, from what opens on, one character after the other.
 use Rattle.std.proofs.Common.{◌≡◌, inl, inr, ℕ, List, [], ◌∷◌, ◌++◌, refl, sym, ap, subst, ◌∙◌, append_assoc, append-nil}
+use Rattle.litrs_prefix.specs.Words.{byte_len, Derivation, IsLiteral, literal_parse, MalformedAreUnique, after_opened, IsMeant, HasNoDerivation, refusal_of, IsRefusal}
 use Rattle.std.proofs.lemmas.List.{append_cancel_left, append_cancel_right}
-use Rattle.litrs_base.specs.Derivations.{HasNoDerivation}
-use Rattle.litrs_base.specs.Refusal.{refusal_of}
-use Rattle.litrs_base.specs.Text.{byte_len}
-use Rattle.litrs_grammar.specs.Literal.{Derivation, IsLiteral, literal_parse}
-use Rattle.litrs_grammar.specs.LiteralRefusals.{IsRefusal}
 use Rattle.litrs_grammar.proofs.LongerTexts.Suffix.{front_of}
-use Rattle.litrs_prefix.specs.Laws.{MalformedAreUnique}
-use Rattle.litrs_prefix.specs.Meant.{after_opened, IsMeant}
 
 abbrev pub Holds : (List ℕ → Type 0) → List ℕ → Type 0
 Holds P more = (x : List ℕ) (c : ℕ) (y : List ℕ) → x ++ c ∷ y ≡ more → P x

@@ -1,19 +1,13 @@
 -- Texts that more text may give another literal at the front.
 use Rattle.std.proofs.Common.{◌≡◌, ◌⊎◌, inl, inr, ℕ, Bool, true, false, List, [], ◌∷◌, ◌++◌, refl, sym, ap, subst, ◌∙◌, append_assoc, arith}
-use Rattle.std.specs.List.{list_all}
+use Rattle.litrs_prefix.specs.Words.{list_all, is_empty, IntegerParts, IsIntegerOf, Derivation, an_integer, IsLiteral, literal_parse, starts_identifier, may_follow, HasPrefix, PrefixGoesOn, IsIntegerAndPeriod, is_scalar, IsText, Begins}
 use Rattle.std.proofs.lemmas.Bool.{and_parts, true≢false}
 use Rattle.std.proofs.lemmas.Bool.Decides.{nat_tests}
 use Rattle.std.proofs.lemmas.List.{append_cancel_left, append_cancel_right}
 use Rattle.std.proofs.lemmas.List.Folds.{list_all-append}
 use Rattle.unicode_ident.proofs.IdentLemmas.{is_xid_start-ascii}
-use Rattle.litrs_base.specs.Characters.{is_scalar}
-use Rattle.litrs_base.specs.Text.{IsText, is_empty}
-use Rattle.litrs_grammar.specs.Integer.{IntegerParts, IsIntegerOf}
-use Rattle.litrs_grammar.specs.Literal.{Derivation, an_integer, IsLiteral, literal_parse, Begins}
-use Rattle.litrs_grammar.specs.Suffix.{starts_identifier}
 use Rattle.litrs_grammar.proofs.LongerTexts.Suffix.{front_of}
-use Rattle.litrs_prefix.specs.Prefix.{may_follow, HasPrefix}
-use Rattle.litrs_prefix.specs.GoesOn.{IsSettled, PrefixGoesOn, IsIntegerAndPeriod}
+use Rattle.litrs_prefix.specs.GoesOn.{IsSettled}
 use Rattle.litrs_prefix.proofs.LongerTexts.{whole, stays}
 use Rattle.litrs_prefix.proofs.Unique.{unique}
 

@@ -1,19 +1,11 @@
 -- Names at the front of a text.
 use Rattle.std.proofs.Common.{◌≡◌, ◌⊎◌, ℕ, Bool, true, false, not, List, [], ◌∷◌, ◌++◌, refl, sym, ap, ◌∙◌, arith}
-use Rattle.std.specs.Prelude.{if◌then◌else◌}
-use Rattle.std.specs.Char.{is_ascii_digit}
-use Rattle.std.specs.List.{list_all}
+use Rattle.litrs_prefix.specs.Words.{if◌then◌else◌, is_ascii_digit, list_all, is_xid_continue, first_passes, bool_text, is_bool, starts_identifier, first_name, after_run, after_name, begins_lifetime, opens_raw, opens_bytes, opens_c_string, opens, ends_suffix, ends_bool, is_suffix, first_run}
 use Rattle.std.proofs.lemmas.Bool.{false≢true}
 use Rattle.std.proofs.lemmas.Bool.Decides.{nat_tests}
 use Rattle.std.proofs.lemmas.List.{append_cancel_right}
-use Rattle.unicode_ident.specs.Ident.{is_xid_continue}
 use Rattle.unicode_ident.proofs.IdentLemmas.{is_xid_start-ascii, is_xid_continue-ascii}
-use Rattle.litrs_base.specs.Text.{first_passes}
-use Rattle.litrs_grammar.specs.Bool.{bool_text, is_bool}
-use Rattle.litrs_grammar.specs.Suffix.{is_suffix, starts_identifier}
 use Rattle.litrs_prefix.specs.Laws.{SuffixesAreUnique}
-use Rattle.litrs_prefix.specs.Opens.{first_run, first_name, after_run, after_name, begins_lifetime, opens_raw, opens_bytes, opens_c_string, opens}
-use Rattle.litrs_prefix.specs.Prefix.{ends_suffix, ends_bool}
 
 pub run_and_rest : (t : List ℕ) → first_run t ++ after_run t ≡ t
 run_and_rest [] = refl

@@ -1,23 +1,13 @@
 -- Numbers, and the rest before which they end.
 use Rattle.std.proofs.Common.{◌≡◌, ℕ, Bool, true, false, not, ◌&&◌, ◌||◌, List, [], ◌∷◌, ◌++◌, length, drop, Option, Some, None, refl, sym, ap, ◌∙◌, subst, arith, append_assoc}
-use Rattle.std.specs.Prelude.{◌==◌}
-use Rattle.std.specs.Char.{is_ascii_digit, is_ascii_alphabetic}
-use Rattle.std.specs.List.{prefix_len, list_all, take_while}
+use Rattle.litrs_prefix.specs.Words.{◌==◌, is_ascii_digit, prefix_len, list_all, first_passes, is_empty, starts_identifier, IntegerParts, IsIntegerOf, is_e, IsFloatOf, is_period, is_decimal_char, ends_suffix, ends_integer, ends_float, is_bare, gives_period, is_ascii_alphabetic, take_while, IntegerBase, Decimal, prefix, is_digit_or_underscore, is_suffix, IsInteger, has_prefix, base_of, integer_cut, FloatParts, float_text, fraction_text, is_exponent, is_float_form, is_decimal_literal}
 use Rattle.std.proofs.lemmas.Bool.{and_parts, and_left, or_left, or_from, not-true, false≢true}
 use Rattle.std.proofs.lemmas.Bool.Decides.{nat_tests}
 use Rattle.std.proofs.lemmas.List.{drop_at}
 use Rattle.unicode_ident.proofs.IdentLemmas.{is_xid_start-ascii}
-use Rattle.litrs_base.specs.declared.integer.IntegerBase.{IntegerBase}
-use Rattle.litrs_base.specs.declared.integer.IntegerBase.TheVariants.{Decimal}
-use Rattle.litrs_base.specs.Base.{prefix, is_digit_or_underscore}
-use Rattle.litrs_base.specs.Text.{first_passes, is_empty}
-use Rattle.litrs_grammar.specs.Suffix.{starts_identifier, is_suffix}
-use Rattle.litrs_grammar.specs.Integer.{IntegerParts, IsInteger, IsIntegerOf, is_e, has_prefix, base_of, integer_cut}
-use Rattle.litrs_grammar.specs.Float.{FloatParts, IsFloatOf, float_text, fraction_text, is_period, is_exponent, is_float_form, is_decimal_char, is_decimal_literal}
 use Rattle.litrs_grammar.proofs.Laws.Integer.{cut_with, integer_cut-is, take_while_front}
 use Rattle.litrs_grammar.proofs.Laws.Float.{float_is_cut, suffix_no_period}
 use Rattle.litrs_grammar.proofs.FloatCuts.{IsCut, after_decimals}
-use Rattle.litrs_prefix.specs.Prefix.{ends_suffix, ends_integer, ends_float, is_bare, gives_period}
 use Rattle.litrs_prefix.proofs.Meant.{digits_passed}
 use Rattle.litrs_prefix.proofs.Names.{same_suffix}
 

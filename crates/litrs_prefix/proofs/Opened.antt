@@ -1,48 +1,20 @@
 -- If a literal is at the front of a text, one begins there, and its rest is what follows what opens
 -- there.
 use Rattle.std.proofs.Common.{◌≡◌, ℕ, zero, suc, Bool, true, false, List, ◌∷◌, ◌++◌, refl, sym, ap, ◌∙◌, arith, ◌⊎◌, inl, inr, ◌+◌, ◌<◌, [], drop, subst, append_assoc}
-use Rattle.std.specs.Prelude.{◌==◌}
-use Rattle.std.specs.Char.{is_ascii_digit, is_ascii_hexdigit}
+use Rattle.litrs_prefix.specs.Words.{◌==◌, is_ascii_digit, first_passes, char_kind, byte_kind, switches_of, quoted_front, raw_front, char_front, starts_identifier, bool_text, plain_char, escaped_char, char_item_text, is_char_item, IsCharLiteral, hashes, raw_closing, RawParts, IsRawLiteral, Derivation, a_bool, an_integer, a_float, a_char, a_byte, IsLiteral, may_follow, ends_bool, ends_suffix, ends_float, HasPrefix, after_hashes, begins_lifetime, opens_raw, opens, after_run, after_name, PrefixesOpen, list_all, is_xid_continue, Switches, IsFloatOf, is_period, IntegerParts, IsIntegerOf, is_e, IsQuotedLiteral, past_quote, past_single_quote, after_digits, after_fraction, after_exponent, after_single_quote, after_quoted, after_char, after_closing, after_raw, after_number, after_body, after_opened, is_ascii_hexdigit, StringKind, string_kind, byte_string_kind, c_string_kind, is_suffix, CharItem, CharParts, occurs, StringParts, quoted_parts, raw_parts, IsString, a_string, a_byte_string, a_c_string, string_suffix, prefix, is_digit_or_underscore, is_blank, IntegerBase, Binary, Octal, Decimal, Hexadecimal, CharKind, Escape, simple_escape, hex_escape, unicode_escape, escape_text, is_escape, is_hex_or_underscore, FloatParts, Item, plain_item, escape_item, continuation, item_text, is_item, body_text, is_body, QuotedParts}
 use Rattle.std.proofs.lemmas.Bool.{and_parts, not-true}
-use Rattle.litrs_base.specs.Text.{first_passes}
-use Rattle.litrs_base.specs.declared.quotes.StringKind.{StringKind}
-use Rattle.litrs_base.specs.declared.quotes.StringKind.TheVariants.{String as string_kind, ByteString as byte_string_kind, CString as c_string_kind}
-use Rattle.litrs_base.specs.declared.quotes.CharKind.TheVariants.{Char as char_kind, Byte as byte_kind}
-use Rattle.litrs_base.specs.Quotes.{switches_of, quoted_front, raw_front, char_front}
-use Rattle.litrs_grammar.specs.Suffix.{starts_identifier, is_suffix}
-use Rattle.litrs_grammar.specs.Bool.{bool_text}
-use Rattle.litrs_grammar.specs.CharByte.{CharItem, plain_char, escaped_char, char_item_text, is_char_item, CharParts, IsCharLiteral}
-use Rattle.litrs_grammar.specs.Raw.{hashes, raw_closing, RawParts, IsRawLiteral, occurs}
-use Rattle.litrs_grammar.specs.Literal.{StringParts, quoted_parts, raw_parts, IsString, Derivation, a_bool, an_integer, a_float, a_char, a_byte, a_string, a_byte_string, a_c_string, IsLiteral, string_suffix}
 use Rattle.litrs_grammar.proofs.QuotedItems.{escape_second}
 use Rattle.litrs_grammar.proofs.Laws.Integer.{starts_with_digit, first_passes-append}
 use Rattle.litrs_grammar.proofs.Laws.Float.{starts_digit, suffix_no_period}
-use Rattle.litrs_prefix.specs.Prefix.{may_follow, ends_bool, ends_suffix, ends_float, HasPrefix}
-use Rattle.litrs_prefix.specs.Opens.{after_hashes, begins_lifetime, opens_raw, opens, after_run, after_name}
-use Rattle.litrs_prefix.specs.Laws.{PrefixesOpen}
 use Rattle.litrs_prefix.proofs.Chars.{longer_char, longer_raw, longer}
 use Rattle.litrs_prefix.proofs.Names.{quote_stops, backslash_stops, run_after, name_after, bool_after}
-use Rattle.std.specs.List.{list_all}
 use Rattle.std.proofs.lemmas.Bool.Decides.{nat_tests}
-use Rattle.unicode_ident.specs.Ident.{is_xid_continue}
 use Rattle.unicode_ident.proofs.IdentLemmas.{is_xid_start-ascii, is_xid_continue-ascii}
-use Rattle.litrs_base.specs.Base.{prefix, is_digit_or_underscore}
-use Rattle.litrs_base.specs.Characters.{is_blank}
-use Rattle.litrs_base.specs.declared.integer.IntegerBase.{IntegerBase}
-use Rattle.litrs_base.specs.declared.integer.IntegerBase.TheVariants.{Binary, Octal, Decimal, Hexadecimal}
-use Rattle.litrs_base.specs.declared.quotes.CharKind.{CharKind}
-use Rattle.litrs_base.specs.declared.quotes.Switches.{Switches}
 use Rattle.litrs_base.proofs.ListTests.{if_true, if_false}
 use Rattle.litrs_base.proofs.Runs.{list_all-append, list_all-weaken}
-use Rattle.litrs_grammar.specs.Escape.{Escape, simple_escape, hex_escape, unicode_escape, escape_text, is_escape, is_hex_or_underscore}
-use Rattle.litrs_grammar.specs.Float.{FloatParts, IsFloatOf, is_period}
-use Rattle.litrs_grammar.specs.Integer.{IntegerParts, IsIntegerOf, is_e}
-use Rattle.litrs_grammar.specs.Quoted.{Item, plain_item, escape_item, continuation, item_text, is_item, body_text, is_body, QuotedParts, IsQuotedLiteral}
 use Rattle.litrs_grammar.proofs.FloatCuts.{cut_of_text}
 use Rattle.litrs_grammar.proofs.RawCuts.{hash_len-append, length_before-body}
 use Rattle.litrs_grammar.proofs.SuffixStart.{suffix_continues}
-use Rattle.litrs_prefix.specs.Ends.{past_quote, past_single_quote, after_digits, after_fraction, after_exponent}
-use Rattle.litrs_prefix.specs.Meant.{after_single_quote, after_quoted, after_char, after_closing, after_raw, after_number, after_body, after_opened}
 use Rattle.litrs_prefix.proofs.Meant.{past_quote_is, past_single_quote_is, digits_passed, number_parts}
 use Rattle.litrs_prefix.proofs.Numbers.{longer_integer, longer_float, with_rest, float_cut_stays}
 use Rattle.litrs_grammar.proofs.Laws.Raw as raw

@@ -1,43 +1,21 @@
 -- Literals that are read once: those without a suffix, before a rest that neither begins nor
 -- continues a name, and strings that are not closed.
 use Rattle.std.proofs.Common.{◌≡◌, ℕ, true, false, not, ◌&&◌, ◌||◌, List, [], ◌∷◌, ◌++◌, drop, Some, refl, sym, ap, subst, ◌∙◌, append-nil, arith, ◌+◌, ◌≤◌, Bool, length, inl, inr, append_assoc}
-use Rattle.std.specs.Prelude.{◌==◌, ⊤, encode_utf8_all}
-use Rattle.std.specs.Char.{is_ascii, is_ascii_digit, is_ascii_alphanumeric}
-use Rattle.std.specs.List.{list_all, list_any, prefix_len, take_while}
-use Rattle.std.specs.Str.{chars, IsUtf8, IsCharBoundary}
+use Rattle.litrs_prefix.specs.Words.{◌==◌, ⊤, encode_utf8_all, is_ascii, is_ascii_digit, is_ascii_alphanumeric, list_all, prefix_len, chars, IsUtf8, IsCharBoundary, is_xid_continue, char_kind, byte_kind, Switches, char_front, quoted_front, switches_of, raw_front, first_passes, is_empty, begins_with, starts_identifier, IntegerParts, IsIntegerOf, IsFloatOf, is_period, is_decimal_char, char_item_text, IsCharLiteral, is_char_item, IsQuotedLiteral, Derivation, an_integer, a_float, a_char, a_byte, IsLiteral, IsItemsEnd, after_digits, IsEndOf, HasLiteralBefore, past_quote, HasPrefix, may_follow, ends_suffix, is_bare, keeps_period, gives_period, is_quote, RawParts, IsRawLiteral, raw_closing, hashes, hash_len, has_unicode, allows_nul, after_opened, after_closing, after_name, list_any, take_while, Decimal, CharKind, StringKind, integer_text, has_prefix, FloatParts, float_text, is_decimal_literal, is_float_form, CharItem, char_text, Item, QuotedParts, body_text, is_item_list, quoted_text, item_text, is_item, is_complete_before, item_refusal, StringParts, IsString, quoted_parts, string_suffix, raw_parts, HasNoDerivation, IsRawBody, raw_text, length_before}
 use Rattle.std.proofs.lemmas.Bool.{and_from, and_left, and_right, or_parts, eqb-true, false≢true, and_parts, ne_eqb}
 use Rattle.std.proofs.lemmas.Bool.Decides.{nat_tests}
 use Rattle.std.proofs.lemmas.List.{take-append-drop, append_cancel_left, drop_all}
 use Rattle.std.proofs.lemmas.Str.{chars-nil, encodes-chars, IsUtf8-drop}
-use Rattle.unicode_ident.specs.Ident.{is_xid_continue}
 use Rattle.unicode_ident.proofs.IdentLemmas.{is_xid_start-ascii, is_xid_continue-ascii, is_xid_start-is_xid_continue}
-use Rattle.litrs_base.specs.declared.integer.IntegerBase.TheVariants.{Decimal}
-use Rattle.litrs_base.specs.declared.quotes.CharKind.{CharKind}
-use Rattle.litrs_base.specs.declared.quotes.CharKind.TheVariants.{Char as char_kind, Byte as byte_kind}
-use Rattle.litrs_base.specs.declared.quotes.StringKind.{StringKind}
-use Rattle.litrs_base.specs.declared.quotes.Switches.{Switches}
-use Rattle.litrs_base.specs.Quotes.{char_front, quoted_front, switches_of, raw_front}
-use Rattle.litrs_base.specs.Text.{first_passes, is_empty, begins_with}
-use Rattle.litrs_grammar.specs.Suffix.{starts_identifier}
-use Rattle.litrs_grammar.specs.Integer.{IntegerParts, IsIntegerOf, integer_text, has_prefix}
-use Rattle.litrs_grammar.specs.Float.{FloatParts, IsFloatOf, float_text, is_period, is_decimal_char, is_decimal_literal, is_float_form}
-use Rattle.litrs_grammar.specs.CharByte.{CharItem, char_item_text, IsCharLiteral, is_char_item, char_text}
-use Rattle.litrs_grammar.specs.Quoted.{Item, QuotedParts, IsQuotedLiteral, body_text, is_item_list, quoted_text, item_text, is_item, is_complete_before, item_refusal}
-use Rattle.litrs_grammar.specs.Literal.{Derivation, an_integer, a_float, a_char, a_byte, IsLiteral, StringParts, IsString, quoted_parts, string_suffix, raw_parts}
 use Rattle.litrs_grammar.proofs.Laws.Integer.{list_all-take_while, first_passes-rest}
 use Rattle.litrs_grammar.proofs.QuotedItems.{stands_body, NoItem, same_items, body_stands, quote_no_item, refused_no_item}
-use Rattle.litrs_lex.specs.Reading.{IsItemsEnd}
 use Rattle.litrs_lex.proofs.SuffixBytes.{is_suffix-nil}
-use Rattle.litrs_prefix.specs.Ends.{after_digits, IsEndOf, HasLiteralBefore, past_quote}
-use Rattle.litrs_prefix.specs.Prefix.{HasPrefix, may_follow, ends_suffix, is_bare, keeps_period, gives_period}
 use Rattle.litrs_prefix.proofs.Meant.{hashes_low}
 use Rattle.litrs_prefix.proofs.Chars.{longer_char, longer, longer_raw}
 use Rattle.litrs_prefix.proofs.Numbers.{longer_integer, longer_float}
 use Rattle.litrs_prefix.proofs.Judged.{string_at, to_string, string_follows, quoted_of, raw_of}
-use Rattle.litrs_base.specs.Derivations.{HasNoDerivation}
 use Rattle.litrs_base.proofs.Begins.{begins_with-append}
 use Rattle.litrs_base.proofs.Chars.{chars_ascii, first_passes-chars}
-use Rattle.litrs_grammar.specs.Raw.{is_quote, RawParts, IsRawBody, IsRawLiteral, raw_text, raw_closing, hashes, hash_len, length_before, has_unicode, allows_nul}
 use Rattle.litrs_grammar.specs.Laws.Raw.{NoClosingIn}
 use Rattle.litrs_grammar.proofs.Laws.Raw.{refused}
 use Rattle.litrs_grammar.proofs.RawCuts.{hash_len-append, hash_cut, after_hashes}
@@ -46,8 +24,6 @@ use Rattle.litrs_grammar.proofs.RawScans.{raw_scans_go_on, raw_bodies_end_at_clo
 use Rattle.litrs_lex.specs.RawCut.{IsRawOpening, IsStop}
 use Rattle.litrs_lex.proofs.FloatBytes.{chars_after}
 use Rattle.litrs_lex.proofs.RawBytes.{Closing, closing_at, stop_of, body_refusal_is, open_body}
-use Rattle.litrs_prefix.specs.Meant.{after_opened, after_closing}
-use Rattle.litrs_prefix.specs.Opens.{after_name}
 use Rattle.litrs_prefix.proofs.Opened.{item_passed, quoted_opened, raw_opened}
 
 -- a literal at the front of a text, before this rest

@@ -1,23 +1,15 @@
 -- A string without a backslash at the front of a text.
 use Rattle.std.proofs.Common.{◌≡◌, ℕ, suc, ◌+◌, true, false, not, List, [], ◌∷◌, None, length, drop, take, sym, ap, subst, ◌∙◌, arith}
-use Rattle.std.specs.Str.{chars, IsUtf8, IsCharBoundary}
+use Rattle.litrs_prefix.specs.Words.{chars, IsUtf8, IsCharBoundary, is_xid_continue, begins_with, first_passes, is_quote, HasPrefix, ends_suffix, IsOnlyDerivation, string_kind, StringParts, IsString, string_suffix, a_string, IsPlainString}
 use Rattle.std.proofs.Math.Seq.{drop-length}
 use Rattle.std.proofs.lemmas.List.{length-take-le}
 use Rattle.std.proofs.lemmas.Str.{chars-nil, IsUtf8-take}
-use Rattle.unicode_ident.specs.Ident.{is_xid_continue}
-use Rattle.litrs_base.specs.Derivations.{IsOnlyDerivation}
-use Rattle.litrs_base.specs.declared.quotes.StringKind.TheVariants.{String as string_kind}
 use Rattle.litrs_base.specs.Quotes.{string_switches}
-use Rattle.litrs_base.specs.Text.{begins_with, first_passes}
-use Rattle.litrs_grammar.specs.Literal.{StringParts, IsString, string_suffix, a_string}
-use Rattle.litrs_grammar.specs.Raw.{is_quote}
 use Rattle.litrs_lex.specs.QuotedCut.{IsQuotedValue}
 use Rattle.litrs_lex.specs.QuotedItems.{IsPlainBody}
 use Rattle.litrs_lex.proofs.PlainBodies.{plain_piece}
 use Rattle.litrs_lex.proofs.QuotedBytes.{quote_byte, quote_boundary}
-use Rattle.litrs.specs.StringLiteral.{IsPlainString}
 use Rattle.litrs.proofs.ParsedStrings.{plain_string}
-use Rattle.litrs_prefix.specs.Prefix.{HasPrefix, ends_suffix}
 use Rattle.litrs_prefix.proofs.Pieces.{parts_spell}
 use Rattle.litrs_prefix.proofs.PlainLiterals.{no_start}
 

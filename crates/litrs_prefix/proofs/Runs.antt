@@ -1,22 +1,16 @@
 -- Names at the front of a text: their ASCII characters are passed by their bytes.
 use Rattle.std.proofs.Common.{◌≡◌, ℕ, ◌<◌, Bool, true, false, List, [], ◌∷◌, ◌++◌, length, drop, refl, sym, ap, subst, ◌∙◌, arith}
-use Rattle.std.specs.Prelude.{nat_le, ltb, if◌then◌else◌}
-use Rattle.std.specs.List.{list_all, prefix_len}
-use Rattle.std.specs.Str.{chars, IsUtf8, IsCharBoundary}
+use Rattle.litrs_prefix.specs.Words.{nat_le, if◌then◌else◌, list_all, prefix_len, chars, IsUtf8, IsCharBoundary, is_xid_continue, begins_with, first_passes, bool_text, is_bool, after_run, after_name, first_name, ltb}
 use Rattle.std.proofs.lemmas.Bool.{true≢false, false_from_ne_true}
 use Rattle.std.proofs.lemmas.Bool.Decides.{nat_tests}
 use Rattle.std.proofs.lemmas.Str.{IsCharBoundary-from_drop, chars-nil}
-use Rattle.unicode_ident.specs.Ident.{is_xid_continue}
 use Rattle.unicode_ident.proofs.IdentLemmas.{is_xid_continue-ascii}
 use Rattle.litrs_base.proofs.Begins.{begins_with-split, begins_with-append}
 use Rattle.litrs_base.proofs.Chars.{OnlyAscii, chars_ascii, ascii_from_test, begins_with-chars, begins_front, passing_front, prefix_len-chars}
 use Rattle.litrs_base.proofs.ListTests.{if_false}
-use Rattle.litrs_base.specs.Text.{begins_with, first_passes}
-use Rattle.litrs_grammar.specs.Bool.{bool_text, is_bool}
 use Rattle.litrs_grammar.proofs.Laws.Integer.{first_passes-rest}
 use Rattle.litrs_grammar.proofs.Laws.Literal.{some_bool}
 use Rattle.litrs_lex.proofs.SuffixBytes.{is_word, words_are_ascii}
-use Rattle.litrs_prefix.specs.Opens.{after_run, after_name, first_name}
 use Rattle.litrs_prefix.proofs.Names.{name_and_rest}
 
 pub drop_passed : (p : ℕ → Bool) (c : ℕ) (t : List ℕ) → drop (prefix_len p (c ∷ t)) (c ∷ t) ≡ (if p c then drop (prefix_len p t) t else (c ∷ t))

@@ -1,21 +1,10 @@
 -- A text has at most one literal at its front.
 use Rattle.std.proofs.Common.{◌≡◌, ◌⊎◌, inl, inr, ℕ, Bool, true, false, List, [], ◌∷◌, ◌++◌, refl, sym, ap, subst, ◌∙◌, arith}
-use Rattle.std.specs.Prelude.{if◌then◌else◌}
-use Rattle.std.specs.Char.{is_ascii_digit}
+use Rattle.litrs_prefix.specs.Words.{if◌then◌else◌, is_ascii_digit, first_passes, bool_text, is_bool, IntegerParts, Derivation, a_bool, an_integer, a_float, IsLiteral, begins_float, ends_suffix, ends_bool, HasPrefix, PrefixesAreUnique, InvalidLiteral, Refusal, without_span, FloatParts, literal_kind, bool_literal, integer_literal, float_literal, refused_as, parsed_as, dispatch}
 use Rattle.std.proofs.lemmas.Bool.{and_parts, true≢false}
 use Rattle.std.proofs.lemmas.List.{append_cancel_right}
-use Rattle.litrs_base.specs.declared.err.ParseErrorKind.TheVariants.{InvalidLiteral}
-use Rattle.litrs_base.specs.Refusal.{Refusal, without_span}
-use Rattle.litrs_base.specs.Text.{first_passes}
-use Rattle.litrs_grammar.specs.Bool.{bool_text, is_bool}
-use Rattle.litrs_grammar.specs.Float.{FloatParts}
-use Rattle.litrs_grammar.specs.Integer.{IntegerParts}
-use Rattle.litrs_grammar.specs.Literal.{Derivation, a_bool, an_integer, a_float, IsLiteral, literal_kind, bool_literal, integer_literal, float_literal}
-use Rattle.litrs_grammar.specs.LiteralRefusals.{refused_as, parsed_as, begins_float, dispatch}
 use Rattle.litrs_grammar.proofs.Laws.Integer.{starts_with_digit, first_passes-append}
 use Rattle.litrs_grammar.proofs.Laws.Literal.{dispatch_literal, is_bool-digit, literals_are_unique}
-use Rattle.litrs_prefix.specs.Prefix.{ends_suffix, ends_bool, HasPrefix}
-use Rattle.litrs_prefix.specs.Laws.{PrefixesAreUnique}
 use Rattle.litrs_prefix.proofs.Numbers.{same_integer, has_mark, integer_mark, float_mark}
 use Rattle.litrs_prefix.proofs.Opened.{only_rest}
 

@@ -1,6 +1,6 @@
 -- The cut decides.
 use Rattle.litrs_prefix.proofs.Words.{◌≡◌, List, ℕ, sym, ap, subst, ◌∙◌, chars, switches_of, IsQuoted, IsQuotedLiteral, ends_suffix}
-use Rattle.litrs_base.specs.Derivations.{IsOnlyDerivation, HasNoDerivation}
+use Rattle.litrs_prefix.specs.Words.{IsOnlyDerivation, HasNoDerivation}
 use Rattle.litrs_lex.proofs.StringFronts.{quoted_boundary, quoted_before}
 use Rattle.litrs_prefix.proofs.Judged.{by_only}
 use Rattle.litrs_prefix.proofs.follow.quoted_follows.Goals as goal

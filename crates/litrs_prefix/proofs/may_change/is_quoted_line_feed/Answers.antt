@@ -1,6 +1,6 @@
 -- The bytes of ASCII are its characters.
 use Rattle.litrs_prefix.proofs.Words.{eqb, Bool, [], ◌∷◌, sym, ap, ◌∙◌, ◌||◌}
-use Rattle.std.specs.Cmp.Lexicographic.{pointwise}
+use Rattle.litrs_prefix.specs.Words.{pointwise}
 use Rattle.litrs_prefix.proofs.MayChange.{line_feed_test}
 use Rattle.litrs_prefix.proofs.may_change.is_quoted_line_feed.Goals as goal
 

@@ -1,6 +1,6 @@
 -- An escape, or a plain character.
 use Rattle.litrs_prefix.proofs.Words.{◌≡◌, ℕ, List, ◌++◌, true, or_right, sym, ap, subst, ◌∙◌, ◌==◌, chars, first_passes, Switches, plain_char, escaped_char, all, after_first, after_bytes}
-use Rattle.litrs_grammar.specs.Escape.{escape_text, is_escape}
+use Rattle.litrs_prefix.specs.Words.{escape_text, is_escape}
 use Rattle.litrs_prefix.proofs.plain.after_item.Goals as goal
 
 pub unescape_with-requires : goal.unescape_with-requires

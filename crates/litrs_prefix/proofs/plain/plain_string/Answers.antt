@@ -1,6 +1,6 @@
 -- The string is the text up to the closing quote.
 use Rattle.litrs_prefix.proofs.Words.{List, ℕ, ◌++◌, ◌+◌, take, sym, ap, subst, ◌∙◌, take-append-drop}
-use Rattle.litrs.specs.StringLiteral.{IsPlainString}
+use Rattle.litrs_prefix.specs.Words.{IsPlainString}
 use Rattle.litrs_prefix.proofs.PlainStrings as strings
 use Rattle.litrs_prefix.proofs.plain.plain_string.Goals as goal
 

@@ -1,6 +1,6 @@
 -- The text before the delimiter is a front of what follows `start`.
 use Rattle.litrs_prefix.proofs.Words.{◌≡◌, List, ℕ, ◌≤◌, ◌++◌, drop, length, sym, ap, subst, ◌∙◌, arith, chars, byte_len, IsLiteral, literal_parse, derivation, after_literal, from_delimiter, before_delimiter, StartsWithDelimiter, after_bytes, end_of_end}
-use Rattle.litrs_grammar.specs.Refused.{IsRefusedOrOutOfMemory}
+use Rattle.litrs_prefix.specs.Words.{IsRefusedOrOutOfMemory}
 use Rattle.litrs.proofs.MovedRefusals.{error_moves}
 use Rattle.litrs_lex.proofs.CharCuts.{byte_len-all}
 use Rattle.litrs_prefix.proofs.Delimiters.{delimiter_end, starts_with_delimiter, before_front, refused_marks, cut_before, taken, front_fits}
