@@ -1,6 +1,6 @@
 -- The text before a delimiter is a front of the text.
-use Rattle.std.proofs.Common.{◌≡◌, ℕ, ◌+◌, ◌-◌, ◌≤◌, Bool, true, false, ◌&&◌, List, [], ◌∷◌, ◌++◌, length, take, drop, refl, sym, ap, ◌∙◌, append_assoc, length-append, arith}
-use Rattle.litrs_prefix.specs.Words.{◌==◌, if◌then◌else◌, chars, IsUtf8, IsCharBoundary, drop_trailing_whitespace, IsEndOf, IsMarkedAt, after_opened, opens, from_first, after_literal, from_delimiter, before_delimiter, StartsWithDelimiter, IsRefusedUntil, is_whitespace, MalformedPrefix}
+use Rattle.std.proofs.Common.{◌≡◌, ℕ, ◌+◌, ◌-◌, ◌≤◌, Bool, true, false, ◌&&◌, List, [], ◌∷◌, ◌++◌, length, take, drop, refl, sym, ap, ◌∙◌, append_assoc, length-append, arith, ◌==◌, if◌then◌else◌}
+use Rattle.litrs_prefix.specs.Words.{chars, IsUtf8, IsCharBoundary, drop_trailing_whitespace, IsEndOf, IsMarkedAt, after_opened, opens, from_first, after_literal, from_delimiter, before_delimiter, StartsWithDelimiter, IsRefusedUntil, is_whitespace, MalformedPrefix}
 use Rattle.std.specs.Str.{trim_end}
 use Rattle.std.proofs.lemmas.List.{drop_at, take-append-drop, append_cancel_right}
 use Rattle.std.proofs.lemmas.Str.{chars_from_encodes}

@@ -1,6 +1,6 @@
 -- The steps by which what was meant as a literal is passed over.
-use Rattle.std.proofs.Common.{◌≡◌, ℕ, zero, suc, ◌+◌, Bool, true, false, not, ◌&&◌, ltb, List, [], ◌∷◌, ◌++◌, take, drop, length, Option, Some, None, refl, sym, ap, subst, ◌∙◌, inl, inr, arith}
-use Rattle.litrs_prefix.specs.Words.{◌==◌, encode_utf8, if◌then◌else◌, list_all, prefix_len, chars, IsUtf8, begins_with, first_passes, is_decimal_char, is_period, is_e, is_quote, is_hash, hashes, raw_closing, past_quote, past_single_quote, after_digits, after_fraction, after_exponent, after_sign, after_single_quote, after_number, after_closing, after_first, FloatParts, float_text, fraction_text, is_sign, sign_len}
+use Rattle.std.proofs.Common.{◌≡◌, ℕ, zero, suc, ◌+◌, Bool, true, false, not, ◌&&◌, ltb, List, [], ◌∷◌, ◌++◌, take, drop, length, Option, Some, None, refl, sym, ap, subst, ◌∙◌, inl, inr, arith, ◌==◌, if◌then◌else◌}
+use Rattle.litrs_prefix.specs.Words.{encode_utf8, list_all, prefix_len, chars, IsUtf8, begins_with, first_passes, is_decimal_char, is_period, is_e, is_quote, is_hash, hashes, raw_closing, past_quote, past_single_quote, after_digits, after_fraction, after_exponent, after_sign, after_single_quote, after_number, after_closing, after_first, FloatParts, float_text, fraction_text, is_sign, sign_len}
 use Rattle.std.proofs.lemmas.Bool.{cases_Bool, and_parts}
 use Rattle.std.proofs.lemmas.Bool.Decides.{nat_tests}
 use Rattle.std.proofs.lemmas.List.{drop_at}

@@ -1,7 +1,7 @@
 -- The text after the piece that begins at the front of a text is an end of the text, without its
 -- first character, and stays the same before more text.
-use Rattle.std.proofs.Common.{◌≡◌, ℕ, ◌-◌, ◌<◌, ◌≤◌, Bool, true, false, not, ◌&&◌, List, [], ◌∷◌, ◌++◌, take, drop, length, refl, sym, ap, subst, ◌∙◌, ◌+◌, length-append, arith, ◌⊎◌, inl, inr, zero, suc}
-use Rattle.litrs_prefix.specs.Words.{◌==◌, if◌then◌else◌, encode_utf8_all, is_ascii_digit, chars, IsUtf8, IsCharBoundary, byte_len, begins_with, first_passes, is_empty, is_decimal_char, starts_identifier, IsEndOf, past_quote, past_single_quote, after_digits, after_fraction, after_exponent, after_sign, after_quoted, after_single_quote, after_char, after_raw, after_prefixed, after_number, after_opened, IsMeant, after_closing, after_body, first_name, after_name, after_hashes, opens, after_run, is_single_quote, begins_lifetime, opens_raw, opens_bytes, opens_c_string, is_xid_continue, is_bool, is_quote, hash_len, raw_closing, is_quoted_line_feed, first_run}
+use Rattle.std.proofs.Common.{◌≡◌, ℕ, ◌-◌, ◌<◌, ◌≤◌, Bool, true, false, not, ◌&&◌, List, [], ◌∷◌, ◌++◌, take, drop, length, refl, sym, ap, subst, ◌∙◌, ◌+◌, length-append, arith, ◌⊎◌, inl, inr, zero, suc, ◌==◌, if◌then◌else◌}
+use Rattle.litrs_prefix.specs.Words.{encode_utf8_all, is_ascii_digit, chars, IsUtf8, IsCharBoundary, byte_len, begins_with, first_passes, is_empty, is_decimal_char, starts_identifier, IsEndOf, past_quote, past_single_quote, after_digits, after_fraction, after_exponent, after_sign, after_quoted, after_single_quote, after_char, after_raw, after_prefixed, after_number, after_opened, IsMeant, after_closing, after_body, first_name, after_name, after_hashes, opens, after_run, is_single_quote, begins_lifetime, opens_raw, opens_bytes, opens_c_string, is_xid_continue, is_bool, is_quote, hash_len, raw_closing, is_quoted_line_feed, first_run}
 use Rattle.std.proofs.lemmas.Bool.{false≢true, and_right, true≢false}
 use Rattle.std.proofs.lemmas.Bool.Decides.{nat_tests}
 use Rattle.std.proofs.lemmas.List.{take-append-drop, drop_all}

@@ -1,7 +1,7 @@
 -- Ends of numbers: before a period that does not belong to one, after the digits of a base, and
 -- before a letter.
-use Rattle.std.proofs.Common.{◌≡◌, ℕ, Bool, true, false, not, ◌&&◌, List, [], ◌∷◌, ◌++◌, take, drop, Option, Some, None, refl, sym, ap, subst, ◌∙◌, inl, inr, arith, ◌-◌, ◌<◌, length, length-drop}
-use Rattle.litrs_prefix.specs.Words.{is_ascii_digit, prefix_len, list_all, chars, IsUtf8, IsCharBoundary, first_passes, is_decimal_char, is_period, IsFloatOf, IntegerParts, IsIntegerOf, is_e, Derivation, an_integer, IsLiteral, starts_identifier, after_digits, IsOnlyRest, after_fraction, after_exponent, IsJudgedBy, IsMalformedLen, IsJudged, after_opened, ends_suffix, ends_integer, keeps_period, HasPrefix, ◌==◌, ◌||◌, nat_le, if◌then◌else◌, is_xid_continue, begins_float, IsFront, after_run, after_name, opens, prefix, is_digit_or_underscore, HasNoDerivation, is_float_mark}
+use Rattle.std.proofs.Common.{◌≡◌, ℕ, Bool, true, false, not, ◌&&◌, List, [], ◌∷◌, ◌++◌, take, drop, Option, Some, None, refl, sym, ap, subst, ◌∙◌, inl, inr, arith, ◌-◌, ◌<◌, length, length-drop, ◌==◌, ◌||◌, if◌then◌else◌}
+use Rattle.litrs_prefix.specs.Words.{is_ascii_digit, prefix_len, list_all, chars, IsUtf8, IsCharBoundary, first_passes, is_decimal_char, is_period, IsFloatOf, IntegerParts, IsIntegerOf, is_e, Derivation, an_integer, IsLiteral, starts_identifier, after_digits, IsOnlyRest, after_fraction, after_exponent, IsJudgedBy, IsMalformedLen, IsJudged, after_opened, ends_suffix, ends_integer, keeps_period, HasPrefix, nat_le, is_xid_continue, begins_float, IsFront, after_run, after_name, opens, prefix, is_digit_or_underscore, HasNoDerivation, is_float_mark}
 use Rattle.std.proofs.lemmas.Bool.{or_left, or_parts, and_parts, not-true, true≢false, or_from, ne_eqb}
 use Rattle.std.proofs.lemmas.Bool.Decides.{nat_tests}
 use Rattle.std.proofs.lemmas.List.{drop_at}

@@ -1,6 +1,6 @@
 -- A piece at the front of a text that is refused.
 use Rattle.std.proofs.Common.{◌≡◌, ◌⊎◌, ℕ, ◌+◌, ◌<◌, ◌^◌, List, ◌++◌, length, take, drop, None, sym, ap, subst, inl, inr, ◌∙◌, append_assoc, append-nil, length-take, [], ◌∷◌, ◌-◌, ◌≤◌, refl, arith}
-use Rattle.litrs_prefix.specs.Words.{chars, IsUtf8, IsCharBoundary, byte_len, Derivation, IsLiteral, literal_parse, IsLiteralLen, IsMalformedLen, IsMalformedOrOutOfMemory, IsMeant, HasPrefix, ParseError, HasNoDerivation, IsRefused, IsRefusedOrOutOfMemory, Refusal, span_of, MovesWithin, MalformedPrefix, EndsBefore}
+use Rattle.litrs_prefix.specs.Words.{chars, IsUtf8, IsCharBoundary, byte_len, Derivation, IsLiteral, literal_parse, IsLiteralLen, IsMalformedLen, IsMalformedOrOutOfMemory, IsMeant, HasPrefix, ParseError, HasNoDerivation, IsRefused, IsRefusedOrOutOfMemory, Refusal, span_of, MovesWithin, MalformedPrefix, EndsBefore, IsMalformed}
 use Rattle.std.proofs.lemmas.Str.{chars-append, chars-nil, encodes-chars, IsUtf8-from_ascii, IsUtf8-take}
 use Rattle.litrs_base.proofs.Chars.{ascii_by_test, chars_ascii}
 use Rattle.std.proofs.lemmas.List.{take-append-drop, append_cancel_right}
@@ -96,6 +96,10 @@ pub period_after : (bs front : List ℕ) (n : ℕ) → IsUtf8 bs → front ≡ t
 period_after bs front n u before one is bound =
     let text : IsUtf8 front = subst (λ (l : List ℕ). IsUtf8 l) (ap (λ (k : ℕ). take (length bs - k) bs) (sym one) ∙ sym before) (IsUtf8-take bs (length bs - 1) u bound) in
     sym (ap chars (is ∙ ap (λ (l : List ℕ). l ++ 46 ∷ []) (sym before)) ∙ (chars-append front (46 ∷ []) text ∙ ap (λ (l : List ℕ). chars front ++ l) (chars_ascii 46 [] (omega arith) ∙ ap (λ (l : List ℕ). 46 ∷ l) chars-nil)))
+
+-- a malformed prefix ends at a character
+pub malformed_boundary : (bs : List ℕ) (e : MalformedPrefix) → IsUtf8 bs → IsMalformed (chars bs) e → IsCharBoundary bs e.len
+malformed_boundary bs e u is = subst (λ (n : ℕ). IsCharBoundary bs n) is.len (cut_at bs is.front is.rest u (sym is.spells)).boundary
 
 -- the piece that is one character longer than a literal
 pub meant_next : (bs : List ℕ) (start n : ℕ) (d : Derivation) → IsUtf8 bs → IsCharBoundary bs start → IsCharBoundary bs n → chars (drop n bs) ≡ drop 1 (chars (drop start bs)) →

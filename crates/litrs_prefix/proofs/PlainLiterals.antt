@@ -1,7 +1,7 @@
 -- Literals that are read once: those without a suffix, before a rest that neither begins nor
 -- continues a name, and strings that are not closed.
-use Rattle.std.proofs.Common.{◌≡◌, ℕ, true, false, not, ◌&&◌, ◌||◌, List, [], ◌∷◌, ◌++◌, drop, Some, refl, sym, ap, subst, ◌∙◌, append-nil, arith, ◌+◌, ◌≤◌, Bool, length, inl, inr, append_assoc}
-use Rattle.litrs_prefix.specs.Words.{◌==◌, ⊤, encode_utf8_all, is_ascii, is_ascii_digit, is_ascii_alphanumeric, list_all, prefix_len, chars, IsUtf8, IsCharBoundary, is_xid_continue, char_kind, byte_kind, Switches, char_front, quoted_front, switches_of, raw_front, first_passes, is_empty, begins_with, starts_identifier, IntegerParts, IsIntegerOf, IsFloatOf, is_period, is_decimal_char, char_item_text, IsCharLiteral, is_char_item, IsQuotedLiteral, Derivation, an_integer, a_float, a_char, a_byte, IsLiteral, IsItemsEnd, after_digits, IsEndOf, HasLiteralBefore, past_quote, HasPrefix, may_follow, ends_suffix, is_bare, keeps_period, gives_period, is_quote, RawParts, IsRawLiteral, raw_closing, hashes, hash_len, has_unicode, allows_nul, after_opened, after_closing, after_name, list_any, take_while, Decimal, CharKind, StringKind, integer_text, has_prefix, FloatParts, float_text, is_decimal_literal, is_float_form, CharItem, char_text, Item, QuotedParts, body_text, is_item_list, quoted_text, item_text, is_item, is_complete_before, item_refusal, StringParts, IsString, quoted_parts, string_suffix, raw_parts, HasNoDerivation, IsRawBody, raw_text, length_before}
+use Rattle.std.proofs.Common.{◌≡◌, ℕ, true, false, not, ◌&&◌, ◌||◌, List, [], ◌∷◌, ◌++◌, drop, Some, refl, sym, ap, subst, ◌∙◌, append-nil, arith, ◌+◌, ◌≤◌, Bool, length, inl, inr, append_assoc, ◌==◌}
+use Rattle.litrs_prefix.specs.Words.{⊤, encode_utf8_all, is_ascii, is_ascii_digit, is_ascii_alphanumeric, list_all, prefix_len, chars, IsUtf8, IsCharBoundary, is_xid_continue, char_kind, byte_kind, Switches, char_front, quoted_front, switches_of, raw_front, first_passes, is_empty, begins_with, starts_identifier, IntegerParts, IsIntegerOf, IsFloatOf, is_period, is_decimal_char, char_item_text, IsCharLiteral, is_char_item, IsQuotedLiteral, Derivation, an_integer, a_float, a_char, a_byte, IsLiteral, IsItemsEnd, after_digits, IsEndOf, HasLiteralBefore, past_quote, HasPrefix, may_follow, ends_suffix, is_bare, keeps_period, gives_period, is_quote, RawParts, IsRawLiteral, raw_closing, hashes, hash_len, has_unicode, allows_nul, after_opened, after_closing, after_name, list_any, take_while, Decimal, CharKind, StringKind, integer_text, has_prefix, FloatParts, float_text, is_decimal_literal, is_float_form, CharItem, char_text, Item, QuotedParts, body_text, is_item_list, quoted_text, item_text, is_item, is_complete_before, item_refusal, StringParts, IsString, quoted_parts, string_suffix, raw_parts, HasNoDerivation, IsRawBody, raw_text, length_before}
 use Rattle.std.proofs.lemmas.Bool.{and_from, and_left, and_right, or_parts, eqb-true, false≢true, and_parts, ne_eqb}
 use Rattle.std.proofs.lemmas.Bool.Decides.{nat_tests}
 use Rattle.std.proofs.lemmas.List.{take-append-drop, append_cancel_left, drop_all}

@@ -1,6 +1,6 @@
 -- Names at the front of a text: their ASCII characters are passed by their bytes.
-use Rattle.std.proofs.Common.{◌≡◌, ℕ, ◌<◌, Bool, true, false, List, [], ◌∷◌, ◌++◌, length, drop, refl, sym, ap, subst, ◌∙◌, arith}
-use Rattle.litrs_prefix.specs.Words.{nat_le, if◌then◌else◌, list_all, prefix_len, chars, IsUtf8, IsCharBoundary, is_xid_continue, begins_with, first_passes, bool_text, is_bool, after_run, after_name, first_name, ltb}
+use Rattle.std.proofs.Common.{◌≡◌, ℕ, ◌<◌, Bool, true, false, List, [], ◌∷◌, ◌++◌, length, drop, refl, sym, ap, subst, ◌∙◌, arith, if◌then◌else◌}
+use Rattle.litrs_prefix.specs.Words.{nat_le, list_all, prefix_len, chars, IsUtf8, IsCharBoundary, is_xid_continue, begins_with, first_passes, bool_text, is_bool, after_run, after_name, first_name, ltb}
 use Rattle.std.proofs.lemmas.Bool.{true≢false, false_from_ne_true}
 use Rattle.std.proofs.lemmas.Bool.Decides.{nat_tests}
 use Rattle.std.proofs.lemmas.Str.{IsCharBoundary-from_drop, chars-nil}

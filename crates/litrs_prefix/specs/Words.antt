@@ -1,8 +1,9 @@
--- The words of the contracts and of their proofs, from one place.
+-- The words of the contracts and of their proofs, from one place. A contract imports operators from
+-- `std` itself, since the toolchain accepts them from nowhere else.
 pub use Rattle.std.specs.Char.{is_ascii, is_ascii_alphanumeric, is_ascii_digit, is_ascii_alphabetic, is_ascii_hexdigit, is_whitespace}
 pub use Rattle.std.specs.Cmp.Lexicographic.{pointwise}
 pub use Rattle.std.specs.List.{prefix_len, list_all, after_first, list_any, take_while}
-pub use Rattle.std.specs.Prelude.{◌+◌, ◌^◌, ◌<◌, drop, take, IsTrue, IfOk, IfErr, IfSome, IfNone, ◌≡◌, not, Bool, ◌↔◌, ◌⊎◌, IsFalse, length, ◌++◌, ◌≤◌, ℕ, nat_le, ◌&&◌, codes, ◌==◌, ◌||◌, ⊤, ◌-◌, encode_utf8_all, nat_eq, encode_utf8, if◌then◌else◌, ltb, option_map, slice_index, unwrap_or}
+pub use Rattle.std.specs.Prelude.{drop, take, IsTrue, IfOk, IfErr, IfSome, IfNone, not, Bool, IsFalse, length, ℕ, nat_le, codes, ⊤, encode_utf8_all, nat_eq, encode_utf8, ltb, option_map, slice_index, unwrap_or}
 pub use Rattle.std.specs.Str.{chars, IsCharBoundary, drop_trailing_whitespace, IsUtf8}
 pub use Rattle.unicode_ident.specs.Ident.{is_xid_continue}
 pub use Rattle.litrs_base.specs.Base.{is_digit_or_underscore, prefix}

@@ -1,5 +1,6 @@
 //! The extent of the literal at the front of a text, valid or malformed.
-ghost use Rattle.litrs_prefix.specs.Words.{◌<◌, drop, take, IsTrue, IfOk, IfErr, IfSome, IfNone, chars, IsCharBoundary, Derivation, IsOnlyRest, IsLiteralLen, IsMalformedLen, after_opened, IsMeant, opens, HasPrefix, HasNoPrefix};
+ghost use Rattle.std.specs.Prelude.{◌<◌};
+ghost use Rattle.litrs_prefix.specs.Words.{drop, take, IsTrue, IfOk, IfErr, IfSome, IfNone, chars, IsCharBoundary, Derivation, IsOnlyRest, IsLiteralLen, IsMalformedLen, after_opened, IsMeant, opens, HasPrefix, HasNoPrefix};
 
 use crate::follow::{ends_bool, follows};
 use crate::malformed::after_opened;

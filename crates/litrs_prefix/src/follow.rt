@@ -1,5 +1,6 @@
 //! Tests of a piece of a text: it is a literal, and the rest may follow it.
-ghost use Rattle.litrs_prefix.specs.Words.{◌≡◌, chars, first_passes, is_period, float_parts, integer_parts, derivation, is_of_suffix, ends_suffix, ends_bool, keeps_period, gives_period, ends_integer, is_bare, ends_float, may_follow, ◌&&◌, IsTrue, begins_with, quoted_front, raw_front, IsFloatOf, IsIntegerOf, begins_float, IsQuotedLiteral, IsRawLiteral, IsFront, IsJudged, IsJudgedBy};
+ghost use Rattle.std.specs.Prelude.{◌≡◌, ◌&&◌};
+ghost use Rattle.litrs_prefix.specs.Words.{chars, first_passes, is_period, float_parts, integer_parts, derivation, is_of_suffix, ends_suffix, ends_bool, keeps_period, gives_period, ends_integer, is_bare, ends_float, may_follow, IsTrue, begins_with, quoted_front, raw_front, IsFloatOf, IsIntegerOf, begins_float, IsQuotedLiteral, IsRawLiteral, IsFront, IsJudged, IsJudgedBy};
 
 use crate::malformed::after_digits;
 use crate::opening::{begins_name, is_empty};

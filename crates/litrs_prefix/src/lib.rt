@@ -29,7 +29,8 @@
 //! ```
 #![tactic(auto)]
 
-ghost use Rattle.litrs_prefix.specs.Words.{◌≡◌, ◌⊎◌, IfOk, IfErr, IfSome, IfNone, IsTrue, IsFalse, length, drop, ◌++◌, ◌<◌, ◌≤◌, chars, IsCharBoundary, literal_raw, derivation, IsMalformedOrOutOfMemory, IsMovedBy, IsMarkedAt, IsLiteralLen, IsMalformedLen, opens, HasPrefix, ◌+◌, ◌^◌, marked_at};
+ghost use Rattle.std.specs.Prelude.{◌≡◌, ◌⊎◌, ◌++◌, ◌<◌, ◌≤◌, ◌+◌, ◌^◌};
+ghost use Rattle.litrs_prefix.specs.Words.{IfOk, IfErr, IfSome, IfNone, IsTrue, IsFalse, length, drop, chars, IsCharBoundary, literal_raw, derivation, IsMalformedOrOutOfMemory, IsMovedBy, IsMarkedAt, IsLiteralLen, IsMalformedLen, opens, HasPrefix, marked_at};
 
 pub use extent::{opened_extent, opened_len, prefix_len};
 pub use follow::may_follow;

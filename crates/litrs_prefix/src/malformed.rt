@@ -1,5 +1,6 @@
 //! The extent of a literal that may be malformed.
-ghost use Rattle.litrs_prefix.specs.Words.{◌≡◌, ◌≤◌, ℕ, length, drop, chars, IsEndOf, after_digits, after_exponent, after_fraction, after_sign, after_quoted, after_single_quote, after_char, after_closing, after_raw, after_prefixed, after_number, after_body, after_opened};
+ghost use Rattle.std.specs.Prelude.{◌≡◌, ◌≤◌};
+ghost use Rattle.litrs_prefix.specs.Words.{ℕ, length, drop, chars, IsEndOf, after_digits, after_exponent, after_fraction, after_sign, after_quoted, after_single_quote, after_char, after_closing, after_raw, after_prefixed, after_number, after_body, after_opened};
 
 use crate::opening::{
     after_hashes, after_name, begins_with_single_quote, opens_bytes, opens_c_string, opens_raw,

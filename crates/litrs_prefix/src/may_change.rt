@@ -1,5 +1,6 @@
 //! The texts to which more text may give a literal, or another answer of `parse_prefix`.
-ghost use Rattle.litrs_prefix.specs.Words.{◌≡◌, IsTrue, IsFalse, chars, AnswerStays, AnswerChanges, OpensNever, OpensLater, is_open_prefix, is_open_front, is_quoted_line_feed, opens, ◌↔◌, IsIntegerAndPeriod, PrefixGoesOn};
+ghost use Rattle.std.specs.Prelude.{◌≡◌, ◌↔◌};
+ghost use Rattle.litrs_prefix.specs.Words.{IsTrue, IsFalse, chars, AnswerStays, AnswerChanges, OpensNever, OpensLater, is_open_prefix, is_open_front, is_quoted_line_feed, opens, IsIntegerAndPeriod, PrefixGoesOn};
 
 use crate::extent::prefix_len;
 use crate::malformed::after_opened;

@@ -1,5 +1,6 @@
 //! Tests whether a literal begins at the front of a text, and the names there.
-ghost use Rattle.litrs_prefix.specs.Words.{◌≡◌, Bool, length, IsTrue, IsFalse, IfSome, IfNone, chars, begins_with, first_passes, bool_text, is_bool, is_quote, first_name, begins_lifetime, is_single_quote, opens_raw, opens_c_string, opens_bytes, opens, nat_le, is_xid_continue, is_empty, starts_identifier, IsEndOf, after_run, after_name, after_hashes};
+ghost use Rattle.std.specs.Prelude.{◌≡◌};
+ghost use Rattle.litrs_prefix.specs.Words.{Bool, length, IsTrue, IsFalse, IfSome, IfNone, chars, begins_with, first_passes, bool_text, is_bool, is_quote, first_name, begins_lifetime, is_single_quote, opens_raw, opens_c_string, opens_bytes, opens, nat_le, is_xid_continue, is_empty, starts_identifier, IsEndOf, after_run, after_name, after_hashes};
 
 use litrs_base::split_first_char;
 use litrs_lex::{Run, run_end};

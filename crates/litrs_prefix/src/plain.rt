@@ -1,6 +1,7 @@
 //! Literals that are read once: those without a suffix, before an ASCII character that no name has.
 //! Most literals of a source are such. Strings that are not closed are read once too.
-ghost use Rattle.litrs_prefix.specs.Words.{◌≡◌, ◌++◌, ⊤, length, IsTrue, IsFalse, IfOk, IfErr, IfSome, IfNone, is_ascii_digit, chars, is_xid_continue, begins_with, first_passes, char_front, quoted_front, raw_front, switches_of, is_char_item, plain_char, is_period, literal_raw, derivation, IsItemsEnd, after_digits, IsEndOf, IsItemBefore, HasLiteralBefore, IsOnlyRest, IsLiteralLen, IsMalformedLen, after_opened, opens, HasPrefix};
+ghost use Rattle.std.specs.Prelude.{◌≡◌, ◌++◌};
+ghost use Rattle.litrs_prefix.specs.Words.{⊤, length, IsTrue, IsFalse, IfOk, IfErr, IfSome, IfNone, is_ascii_digit, chars, is_xid_continue, begins_with, first_passes, char_front, quoted_front, raw_front, switches_of, is_char_item, plain_char, is_period, literal_raw, derivation, IsItemsEnd, after_digits, IsEndOf, IsItemBefore, HasLiteralBefore, IsOnlyRest, IsLiteralLen, IsMalformedLen, after_opened, opens, HasPrefix};
 
 use crate::Prefix;
 use crate::extent::judged_extent;

@@ -1,5 +1,6 @@
 //! The literal before a delimiter.
-ghost use Rattle.litrs_prefix.specs.Words.{◌≡◌, drop, IfOk, IfErr, chars, IsCharBoundary, IsLiteral, literal_raw, derivation, IsEndOf, IsMarkedAt, is_delimiter, from_first, from_delimiter, before_delimiter, StartsWithDelimiter, IsRefusedUntil};
+ghost use Rattle.std.specs.Prelude.{◌≡◌};
+ghost use Rattle.litrs_prefix.specs.Words.{drop, IfOk, IfErr, chars, IsCharBoundary, IsLiteral, literal_raw, derivation, IsEndOf, IsMarkedAt, is_delimiter, from_first, from_delimiter, before_delimiter, StartsWithDelimiter, IsRefusedUntil};
 
 use crate::malformed::after_opened;
 use crate::opening::opens;
