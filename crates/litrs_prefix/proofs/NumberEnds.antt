@@ -97,7 +97,7 @@ integer_alone bs r None u is none h = number_before bs r None u is h (λ d f. tr
 pub e_first : (bs t : List ℕ) → IsUtf8 bs → chars bs ≡ t → first_passes is_e t ≡ first_passes is_e bs
 e_first bs t u is = ap (first_passes is_e) (sym is) ∙ first_passes-chars is_e bs (λ c high. or_from _ _ (ne_eqb c 101 (λ e. omega arith)) (ne_eqb c 69 (λ e. omega arith))) u
 
--- before a character that is no part of a float
+-- before a character that is not part of a float
 
 pub no_mark : (y : List ℕ) → first_passes is_period y ≡ false → first_passes is_e y ≡ false → first_passes is_float_mark y ≡ false
 no_mark [] period e = refl
