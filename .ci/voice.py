@@ -1,9 +1,9 @@
 #!/usr/bin/env python3
-"""Checks the comments of the crates against the conventions of Rust's API documentation.
+"""Checks the comments of the crates against the conventions of Rust's API documentation, and the lengths of pages.
 
 The summary of a function begins with a verb in the third person, or with a link to the function that it is like. No comment
-of `src/`, `specs/` and `proofs/` begins with a word of `RIDDLES` or has a construction of `FORBIDDEN`. Prints each fault with its place,
-and the number of summaries.
+of `src/`, `specs/` and `proofs/` begins with a word of `RIDDLES` or has a construction of `FORBIDDEN`. No page is longer than `LENGTHS`
+allows. Prints each fault with its place, and the number of summaries and of pages.
 """
 import pathlib
 import re
@@ -22,6 +22,20 @@ RIDDLES = re.compile(r"(?:What|Whether|Where|Why|How|That|The same) ")
 FORBIDDEN = re.compile(
     r"\bso many\b|\b[Tt]he same of\b|\bnone stands\b|(?<!there )\b(?:is|are) none\b|\bgoes on\b"
     r"|\bstands? (?:there|first|so|in|at|on|for|before|after|between)\b")
+# The greatest number of words of a page, or of some pages together. Each answers one question of its readers.
+LENGTHS = {
+    "README.md": 900,
+    "CONTRIBUTING.md docs/TOUR.md": 2500,
+    "crates/*/CALLING.md": 2000,
+    "docs/GRAMMAR.md": 5000,
+    "docs/PROMISES.md": 2000,
+    "docs/DIFFERENCES.md": 1500,
+    "docs/DECISIONS.md": 2500,
+    "docs/GATE.md": 1200,
+    "docs/EXPLAIN.md": 700,
+    "docs/LINES.md": 700,
+    "bench/README.md": 1500,
+}
 # Lines of code, and the number of their faults.
 EXAMPLES = [
     ("/// Returns `true` if `text` is empty.\nfn is_empty(text: &str) -> bool", 0),
@@ -77,6 +91,20 @@ def faults_of(lines):
     return faults, kinds
 
 
+def page_faults():
+    """The pages, and those of them that are too long, each with its number of words."""
+    pages, faults = [], []
+    for names, most in LENGTHS.items():
+        together = [path for name in names.split() for path in sorted(TOP.glob(name))]
+        pages += together
+        for part in [together] if " " in names else [[path] for path in together]:
+            words = sum(len(path.read_text().split()) for path in part)
+            if words > most:
+                told = " and ".join(str(path.relative_to(TOP)) for path in part)
+                faults.append(f"{told}: {words} words, at most {most}")
+    return pages, faults
+
+
 def main():
     for text, count in EXAMPLES:
         found = faults_of(text.split("\n"))[0]
@@ -90,7 +118,11 @@ def main():
         faults += len(found)
         for line, fault in found:
             print(f"{path.relative_to(TOP)}:{line}: {fault}")
-    print(f"voice: {total.count('function')} summaries of functions, {total.count('type')} of types, {faults} faults")
+    pages, long = page_faults()
+    faults += len(long)
+    print(*long, sep="\n", end="\n" if long else "")
+    number = f"{total.count('function')} summaries of functions, {total.count('type')} of types, {len(pages)} pages"
+    print(f"voice: {number}, {faults} faults")
     return 1 if faults else 0
 
 
