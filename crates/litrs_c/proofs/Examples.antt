@@ -104,6 +104,35 @@ integer_suffix fields is =
     let start : fields.suffix.start + 2 ≡ 7 = is.suffix.start in
     (omega (arith, start), is.suffix.end)
 
+-- 2^128, which the halves do not hold
+great_integer_value : (fields : LiteralFields) →
+    IsLiteralFields 39 (an_integer (record { base = Decimal; main = codes "340282366920938463463374607431768211456"; suffix = [] })) fields →
+    (fields.has_value ≡ false) × (fields.value_low + 2 ^ 64 * fields.value_high ≡ 0)
+unfolding computing
+great_integer_value fields is = (is.number.has_value, is.number.value)
+
+-- `1.5e3f32`
+float_fields : (fields : LiteralFields) →
+    IsLiteralFields 8 (a_float (record { integer = codes "1"; fraction = Some (codes "5"); exponent = codes "e3"; suffix = codes "f32" })) fields →
+    (fields.kind ≡ 3) × (fields.base ≡ 0) × (fields.has_fraction ≡ true)
+    × (fields.main ≡ place 0 1) × (fields.fraction ≡ place 2 3) × (fields.exponent ≡ place 3 5)
+unfolding computing
+float_fields fields is = (is.kind, is.base, is.has_fraction, is.main, is.fraction, is.exponent)
+
+-- `br"a"`
+abbrev raw : Derivation
+raw = a_byte_string (raw_parts (record { hash_count = 0; body = codes "ab"; suffix = [] }))
+
+raw_fields : (fields : LiteralFields) → IsLiteralFields 6 raw fields → (fields.kind ≡ 7) × (fields.is_raw ≡ true)
+unfolding computing
+raw_fields fields is = (is.kind, is.raw)
+
+-- `true`
+bool_fields : (fields : LiteralFields) → IsLiteralFields 4 (a_bool true) fields →
+    (fields.kind ≡ 1) × (fields.has_value ≡ true) × (fields.value_low + 2 ^ 64 * fields.value_high ≡ 1)
+unfolding computing
+bool_fields fields is = (is.kind, is.number.has_value, is.number.value)
+
 -- Fields of a refusal
 
 -- the refusal of `b'é'`, whose character has two bytes
@@ -112,6 +141,13 @@ final_fields : (fields : RefusalFields) →
     (fields.kind ≡ 25) × (fields.is_final ≡ true) × (fields.is_open ≡ false) × (fields.has_span ≡ true)
     × (fields.span ≡ place 2 3) × (fields.char_span ≡ place 2 4)
 final_fields fields is = (is.kind, is.final, is.lacks_closing, is.has_span, is.span, is.char_span)
+
+-- the refusal of `"a`
+open_fields : (fields : RefusalFields) →
+    IsRefusalFields (record { span = None; char_end = 0; kind = kind.UnterminatedString }) fields →
+    (fields.kind ≡ 30) × (fields.is_final ≡ false) × (fields.is_open ≡ true) × (fields.has_span ≡ false)
+    × (fields.span ≡ nowhere) × (fields.char_span ≡ nowhere)
+open_fields fields is = (is.kind, is.final, is.lacks_closing, is.has_span, is.span, is.char_span)
 
 -- Writes to a room
 
@@ -125,15 +161,17 @@ kept_without_length kept =
 kept_bytes : (old new : List ℕ) (len : ℕ) → IsKept old new len → new ≡ old
 kept_bytes old new len kept = kept.1
 
+-- a room that is longer than the bytes keeps its end
+written_long : (new : List ℕ) (len : ℕ) → IsWritten (codes "a") (codes "xyz") new len → new ≡ codes "ayz"
+unfolding computing
+written_long new len is = is.room
+
 -- a part from the second byte on
 written_from : (new : List ℕ) (end : ℕ) → IsWrittenFrom 1 (codes "ab") (codes "wxyz") new end → (end ≡ 3) × (new ≡ codes "wabz")
 unfolding computing
 written_from new end is = (is.ends, is.room)
 
 -- the value of `br"ab"`
-abbrev raw : Derivation
-raw = a_byte_string (raw_parts (record { hash_count = 0; body = codes "ab"; suffix = [] }))
-
 value_written : (new : List ℕ) (len : ℕ) → WritesValue (codes "x") new len raw → (len ≡ 2) × (new ≡ codes "a")
 unfolding computing
 value_written new len is =
@@ -155,7 +193,12 @@ literal_written old new len d is = (is.utf8, is.literal, is.written)
 
 -- Numbers that need memory
 
--- the float `10.5` needs none
+-- the float `1_0.5`
+copied_float : IsCopied (a_float (record { integer = codes "1_0"; fraction = Some (codes "5"); exponent = []; suffix = [] }))
+unfolding computing
+copied_float = refl
+
+-- not that of `10.5`
 plain_float_stays : ¬ IsCopied (a_float (record { integer = codes "10"; fraction = Some (codes "5"); exponent = []; suffix = [] }))
 unfolding computing
 plain_float_stays copied =
@@ -174,7 +217,7 @@ small_integer_stays copied =
     let large : 2 ^ 64 ≤ 27 = copied.2 in
     absurd (omega (arith, large))
 
--- and a bool is not a number
+-- nor is a bool
 bool_stays : ¬ IsCopied (a_bool true)
 bool_stays copied = copied
 
