@@ -5,9 +5,9 @@
 
 The first table below "Types" has a line for each enum and struct: in its last cell are the variants
 or public fields, as they are declared. Below "All calls" each heading names types, traits, public
-modules or the crate, and each line of its table is a call of each of them, with its signature. A
-parameter is `name: Type` or `Type`, and `alloc` is `alloc: Global`; lifetimes may be left out, and
-`..` in an answer is any part of it.
+modules or the crate, and the first cell of each line of its table has calls of each of them, with
+their signatures. A parameter is `name: Type` or `Type`, and `alloc` is `alloc: Global`; lifetimes
+may be left out, and `..` in an answer is any part of it.
 
 Fails if a public type, variant, field or function is not listed, if one is listed that is not
 public or is listed twice, and if a signature differs.
@@ -22,7 +22,7 @@ CRATES = libraries.TOP / "crates"
 DECLARED = r"^pub (?:enum|struct|trait|(?:const )?fn) (\w+)"
 # A function, but for its name: its parameters and its answer.
 FUNCTION = r"(?:<[^(]*>)?\(([^)]*)\)(?: -> (.*?))?\s*(?:requires|ensures|\{|;|$)"
-CALL = re.compile(r"\| `(\w+)(?:::<[\w, ]+>)?\(([^)]*)\)(?: -> ([^`]*))?`")
+CALL = re.compile(r"`(\w+)(?:::<[\w, ]+>)?\(([^)]*)\)(?: -> ([^`]*))?`")
 USED = re.compile(r"^pub use ([\w:]+)::(\{[^}]*\}|\w+);", re.M)
 
 
@@ -141,13 +141,14 @@ def listed_types(page):
 
 
 def listed_calls(page):
-    """Yields the calls of a page, each with its signature; any other line is a call by its text."""
+    """Yields the calls of a page, each with its signature; any other text is a call by its name."""
     for part in re.split(r"^### ", section(page, "All calls"), flags=re.M)[1:]:
         head, _, table = part.partition("\n")
-        for line in re.findall(r"^\| `.*", table, re.M):
-            found = CALL.match(line) or [line, line, "", ""]
-            for owner in re.findall(r"`([\w:]+)`", head):
-                yield (owner, found[1]), signature(found[2], found[3], owner)
+        for cell in re.findall(r"^\| (`.*?) \|", table, re.M):
+            for call in re.findall(r"`[^`]*`", cell):
+                found = CALL.fullmatch(call) or [call, call, "", ""]
+                for owner in re.findall(r"`([\w:]+)`", head):
+                    yield (owner, found[1]), signature(found[2], found[3], owner)
 
 
 def is_answer(listed, public):
