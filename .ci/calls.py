@@ -3,11 +3,12 @@
 
     .ci/calls.py
 
-The first table below "Types" has a line for each enum and struct: in its last cell are the variants
-or public fields, as they are declared. Below "All calls" each heading names types, traits, public
-modules or the crate, and the first cell of each line of its table has calls of each of them, with
-their signatures. A parameter is `name: Type` or `Type`, and `alloc` is `alloc: Global`; lifetimes
-may be left out, and `..` in an answer is any part of it.
+The table below "Types" has the enums and structs: in the last cell of a line are the variants or
+public fields of each type of its first cell, as they are declared. Below "All calls" each heading
+names types, traits, public modules or the crate, and the first cell of each line of its table has
+calls of each of them, with their signatures. A call `Owner::call(..)` is of this owner alone. A
+parameter is `name: Type` or `Type`, and `alloc` is `alloc: Global`; lifetimes may be left out, and
+`..` in an answer is any part of it.
 
 Fails if a public type, variant, field or function is not listed, if one is listed that is not
 public or is listed twice, and if a signature differs.
@@ -22,7 +23,7 @@ CRATES = libraries.TOP / "crates"
 DECLARED = r"^pub (?:enum|struct|trait|(?:const )?fn) (\w+)"
 # A function, but for its name: its parameters and its answer.
 FUNCTION = r"(?:<[^(]*>)?\(([^)]*)\)(?: -> (.*?))?\s*(?:requires|ensures|\{|;|$)"
-CALL = re.compile(r"`(\w+)(?:::<[\w, ]+>)?\(([^)]*)\)(?: -> ([^`]*))?`")
+CALL = re.compile(r"`(?:(\w+)::)?(\w+)(?:::<[\w, ]+>)?\(([^)]*)\)(?: -> ([^`]*))?`")
 USED = re.compile(r"^pub use ([\w:]+)::(\{[^}]*\}|\w+);", re.M)
 
 
@@ -137,7 +138,8 @@ def listed_types(page):
     """The types of a page, each with its members."""
     for line in re.findall(r"^\| `.*", section(page, "Types").split("###")[0], re.M):
         cells = re.split(r"(?<!\\)\|", line)[1:-1]
-        yield re.search(r"\w+", cells[0])[0], re.findall(r"`([^`]+)`", cells[-1])
+        for name in re.findall(r"`(\w+)", cells[0]):
+            yield name, re.findall(r"`([^`]+)`", cells[-1])
 
 
 def listed_calls(page):
@@ -146,9 +148,9 @@ def listed_calls(page):
         head, _, table = part.partition("\n")
         for cell in re.findall(r"^\| (`.*?) \|", table, re.M):
             for call in re.findall(r"`[^`]*`", cell):
-                found = CALL.fullmatch(call) or [call, call, "", ""]
-                for owner in re.findall(r"`([\w:]+)`", head):
-                    yield (owner, found[1]), signature(found[2], found[3], owner)
+                found = CALL.fullmatch(call) or [call, None, call, "", ""]
+                for owner in [found[1]] if found[1] else re.findall(r"`([\w:]+)`", head):
+                    yield (owner, found[2]), signature(found[3], found[4], owner)
 
 
 def is_answer(listed, public):
