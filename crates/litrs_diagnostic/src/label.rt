@@ -27,7 +27,8 @@ pub struct Label<'a> {
 }
 
 impl<'a> Label<'a> {
-    /// Creates a label on a range of `source`, the text of a diagnostic.
+    /// Creates a label on a range of `source`, the text of a diagnostic. The range is in bytes, in
+    /// order, and has character boundaries at both ends.
     pub fn new(source: &'a str, range: Range<usize>, text: &'a str) -> Label<'a>
         requires start { IsCharBoundary source.now range.start }
         requires end { IsCharBoundary source.now range.end }

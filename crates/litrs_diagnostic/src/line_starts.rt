@@ -55,7 +55,7 @@ impl<'a> Lines<'a> {
         Ok(Lines { source, starts })
     }
 
-    /// Returns the line and the column of the place `at` of the text, like
+    /// Returns the line and the column of the character boundary `at` of the text, like
     /// [`position`](crate::position).
     pub fn position(&self, at: usize) -> LineColumn
         requires { IsCharBoundary self.now at }

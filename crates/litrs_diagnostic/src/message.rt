@@ -64,8 +64,9 @@ impl<'a> Diagnostic<'a> {
     ghost use Rattle.std.specs.Prelude.{map};
     ghost use Rattle.litrs_diagnostic.specs.Rows.{label_of, message_of, remark_of};
 
-    /// Creates an error on a range of `source`, a whole text that is called `name`. Of each line
-    /// 140 columns are shown.
+    /// Creates an error on a range of `source`, a whole text that is called `name`. The range is in
+    /// bytes, in order, and has character boundaries at both ends. Of each line 140 columns are
+    /// shown.
     pub fn new(
         name: &'a str,
         source: &'a str,
@@ -131,7 +132,7 @@ impl<'a> Diagnostic<'a> {
         }
     }
 
-    /// Returns the diagnostic with these labels of further ranges of its text.
+    /// Returns the diagnostic with these labels, which are on further ranges of its text.
     ///
     /// Those on earlier lines are shown above the range, the others below its first line. If the
     /// labels are in the order of the text, all lines are.

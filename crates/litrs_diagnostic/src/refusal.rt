@@ -12,7 +12,8 @@ use litrs_base::ParseError;
 use std::alloc::{AllocError, Global};
 
 /// Returns the message on `error`, the error of a parse of `text`, with the lines that it marks in
-/// `text`. At most `width` columns of each line are shown.
+/// `text`. At most `width` columns of each line are shown. The character span of `error` has
+/// boundaries of `text` at both ends, as that of a parse has.
 ///
 /// # Errors
 ///
