@@ -73,7 +73,7 @@ impl<B: Text> ByteLit<B> {
     ///
     /// # Errors
     ///
-    /// Like [`parse`](ByteLit::parse).
+    /// Returns the errors of [`parse`](ByteLit::parse).
     #[inline(always)]
     pub(crate) fn parse_with_front(input: B, front: Front) -> Result<ByteLit<B>, ParseError>
         requires { IsFront front (B.bytes input) }

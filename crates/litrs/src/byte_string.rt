@@ -74,7 +74,7 @@ impl<B: Text> ByteStringLit<B> {
     ///
     /// # Errors
     ///
-    /// Like [`parse`](ByteStringLit::parse).
+    /// Returns the errors of [`parse`](ByteStringLit::parse).
     #[inline(always)]
     pub(crate) fn parse_with_front(
         alloc: Global,

@@ -159,7 +159,7 @@ impl<B: Text> CStringLit<B> {
     ///
     /// # Errors
     ///
-    /// Like [`parse`](CStringLit::parse).
+    /// Returns the errors of [`parse`](CStringLit::parse).
     #[inline(always)]
     pub(crate) fn parse_with_front(
         alloc: Global,

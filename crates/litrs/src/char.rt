@@ -72,7 +72,7 @@ impl<B: Text> CharLit<B> {
     ///
     /// # Errors
     ///
-    /// Like [`parse`](CharLit::parse).
+    /// Returns the errors of [`parse`](CharLit::parse).
     #[inline(always)]
     pub(crate) fn parse_with_front(input: B, front: Front) -> Result<CharLit<B>, ParseError>
         requires { IsFront front (B.bytes input) }

@@ -74,7 +74,7 @@ impl<B: Text> StringLit<B> {
     ///
     /// # Errors
     ///
-    /// Like [`parse`](StringLit::parse).
+    /// Returns the errors of [`parse`](StringLit::parse).
     #[inline(always)]
     pub(crate) fn parse_with_front(
         alloc: Global,

@@ -137,8 +137,8 @@ impl ParseError {
         self.kind().is_final()
     }
 
-    /// Returns `true` if the error is open: only the closing quote is missing, with the hashes of a
-    /// raw string. It is for `"ab` and `r#"ab"`.
+    /// Returns `true` if the error is open: only the closing quote of a string is missing, with the
+    /// hashes of a raw one. It is for `"ab` and `r#"ab"`, but not for `'a`.
     pub fn is_open(&self) -> bool
         ensures { result ≡ is_open (kind_of self.now) }
     {

@@ -28,9 +28,9 @@ use std::alloc::{AllocError, Global};
 ///
 /// # Errors
 ///
-/// `NotAFloat` if and only if no float has these parts, for example `1`, `Some("")` and the suffix
-/// `f32`, or `1`, `None` and no exponent. This is decided before the allocation. `Memory` if the
-/// allocation fails.
+/// Returns `NotAFloat` if and only if no float has these parts, for example `1`, `Some("")` and the
+/// suffix `f32`, or `1`, `None` and no exponent. This is decided before the allocation. Returns
+/// `Memory` if the allocation fails.
 ///
 /// [ref]: https://doc.rust-lang.org/reference/tokens.html#floating-point-literals
 pub fn float(

@@ -37,7 +37,7 @@ const CHUNK_DIGITS: usize = 19;
 ///
 /// # Errors
 ///
-/// As [`grouped_integer`].
+/// Returns the errors of [`grouped_integer`].
 pub fn integer(
     alloc: Global,
     value: u128,
@@ -68,9 +68,10 @@ pub fn integer(
 ///
 /// # Errors
 ///
-/// `NotASuffix` if and only if no integer of the base has the suffix. Then it is neither empty nor
-/// an identifier, or begins with `e`, `E`, `_` or a digit of the base, for example `f32` in base
-/// sixteen. This is decided before the allocation. `Memory` if the allocation fails.
+/// Returns `NotASuffix` if and only if no integer of the base has the suffix. Then it is neither
+/// empty nor an identifier, or begins with `e`, `E`, `_` or a digit of the base, for example `f32`
+/// in base sixteen. This is decided before the allocation. Returns `Memory` if the allocation
+/// fails.
 ///
 /// [ref]: https://doc.rust-lang.org/reference/tokens.html#integer-literals
 pub fn grouped_integer(
@@ -106,7 +107,7 @@ pub fn grouped_integer(
 ///
 /// # Errors
 ///
-/// `AllocError` if the allocation fails.
+/// Returns `AllocError` if the allocation fails.
 pub fn regroup<B: Text>(
     alloc: Global,
     lit: &IntegerLit<B>,

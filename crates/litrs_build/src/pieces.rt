@@ -55,7 +55,7 @@ impl<'a> Piece<'a> {
     ///
     /// # Errors
     ///
-    /// `AllocError` if `text` has no room for it and an allocation fails.
+    /// Returns `AllocError` if `text` has no room for it and an allocation fails.
     #[inline(always)]
     pub(crate) fn push_to(self, text: &mut String) -> Result<(), AllocError>
         ensures { OnOk result (string_bytes text.new

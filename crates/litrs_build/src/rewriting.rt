@@ -38,7 +38,7 @@ use std::fmt::Write;
 ///
 /// # Errors
 ///
-/// `AllocError` if an allocation fails.
+/// Returns `AllocError` if an allocation fails.
 pub fn rewritten<B: Text>(
     alloc: Global,
     lit: &Literal<B>,

@@ -75,7 +75,7 @@ impl Spelling {
     ///
     /// # Errors
     ///
-    /// `AllocError` if `text` has no room for it and an allocation fails.
+    /// Returns `AllocError` if `text` has no room for it and an allocation fails.
     pub(crate) fn push_to(self, text: &mut String) -> Result<(), AllocError>
         ensures { OnOk result (string_bytes text.new
             ≡ string_bytes text.old ++ encode_utf8_all (item_text (spelled_item self))) }

@@ -34,7 +34,7 @@ use std::alloc::{AllocError, Global};
 ///
 /// # Errors
 ///
-/// `AllocError` if an allocation fails.
+/// Returns `AllocError` if an allocation fails.
 pub fn unescaped<B: Text>(alloc: Global, lit: &Literal<B>) -> Result<Literal<String>, AllocError>
     ensures literal { IfOk result (λ built.
         IsLiteral (chars (literal_raw built)) (derivation built)) }

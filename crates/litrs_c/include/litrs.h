@@ -2,7 +2,8 @@
  *
  * A text is a pointer and a length in bytes; it has no closing zero. If the length is 0 the pointer
  * may be NULL: that is the empty text, or a room of no bytes. Places count bytes from the start of
- * the text. Nothing is kept between calls, and nothing has to be freed. README.md says more.
+ * the text, or for litrs_parse_prefix_at from the cursor. Nothing is kept between calls, and nothing
+ * has to be freed. README.md says more.
  */
 #ifndef LITRS_H
 #define LITRS_H
@@ -152,7 +153,7 @@ typedef struct litrs_refusal {
     uint32_t kind;         /* enum litrs_error */
     litrs_bool has_span;   /* true if it points at a part of the text; else both spans are 0..0 */
     litrs_bool is_final;   /* true if no text that begins with this one is a literal */
-    litrs_bool is_open;    /* true if the text only lacks its closing quote and hashes */
+    litrs_bool is_open;    /* true if a string only lacks its closing quote and hashes */
     litrs_place span;      /* the part of the text; it may end inside a character */
     litrs_place char_span; /* the part of the text, up to the end of its last character */
 } litrs_refusal;

@@ -129,7 +129,7 @@ class ParseError(ValueError):
     span      the start and the end of what is wrong, such as (2, 3), or None
     message   what is wrong, such as "input is empty"; a place in it counts bytes
     is_final  True if no text that begins with this one is a literal
-    is_open   True if the text only lacks its closing quote and hashes
+    is_open   True if a string only lacks its closing quote and hashes
     length    the length of the malformed literal, which for `parse` is that of the text
 
     It can be copied and pickled, also as a subclass with another constructor.

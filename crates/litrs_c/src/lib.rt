@@ -96,7 +96,7 @@ pub struct RefusalFields {
     pub has_span: bool,
     /// `true` if no text that begins with this one is a literal.
     pub is_final: bool,
-    /// `true` if the text only lacks its closing quote, with the hashes of a raw string.
+    /// `true` if a string only lacks its closing quote, with the hashes of a raw one.
     pub is_open: bool,
     /// The part of the text. The start is a character boundary.
     pub span: Place,

@@ -15,7 +15,7 @@ const ESCAPE: char = '\0';
 ///
 /// # Errors
 ///
-/// `AllocError` if an allocation failed.
+/// Returns `AllocError` if an allocation failed.
 pub(crate) fn arguments(rt: &HostRuntime) -> Result<Vec<String>, AllocError> {
     let mut arguments = Vec::new(rt.alloc());
     for _ in 0..u64::MAX {

@@ -87,7 +87,7 @@ impl<'a> Explainer<'a> {
     ///
     /// # Errors
     ///
-    /// Those of the output, and that of an allocation.
+    /// Returns the errors of the output, and that of an allocation.
     pub(crate) fn feed(&mut self, line: &[u8]) -> Result<(), Error> {
         let text = match line.strip_prefix(BYTE_ORDER_MARK) {
             Some(text) if self.next_in_file == 0 => text,
@@ -109,7 +109,7 @@ impl<'a> Explainer<'a> {
     ///
     /// # Errors
     ///
-    /// As [`Explainer::feed`].
+    /// Returns the errors of [`Explainer::feed`].
     pub(crate) fn finish(&mut self) -> Result<(), Error> {
         if self.open.take().is_some() {
             let (text, start) = self.take_held()?;

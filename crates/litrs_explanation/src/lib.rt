@@ -71,7 +71,7 @@ const NO_NAMES: &str = " no integer type";
 ///
 /// # Errors
 ///
-/// `AllocError` if an allocation fails.
+/// Returns `AllocError` if an allocation fails.
 pub fn explanation<B: Buffer>(alloc: Global, literal: &Literal<B>) -> Result<String, AllocError>
     ensures lines { IfOk result (λ lines.
         IsExplanation (derivation literal.now) (string_bytes lines)) }
@@ -90,7 +90,7 @@ pub fn explanation<B: Buffer>(alloc: Global, literal: &Literal<B>) -> Result<Str
 ///
 /// # Errors
 ///
-/// `AllocError` if an allocation fails. Then a part of the lines may have been appended.
+/// Returns `AllocError` if an allocation fails. Then a part of the lines may have been appended.
 pub fn push_explanation<B: Buffer>(out: &mut String, literal: &Literal<B>) -> Result<(), AllocError>
     ensures kept { take (length (string_bytes out.old)) (string_bytes out.new)
         ≡ string_bytes out.old }
@@ -313,7 +313,7 @@ fn push_integer_parts<'a, B: Buffer>(
 ///
 /// # Errors
 ///
-/// `AllocError` if an allocation fails.
+/// Returns `AllocError` if an allocation fails.
 pub fn integer_text<B: Buffer>(alloc: Global, lit: &IntegerLit<B>) -> Result<String, AllocError>
     ensures { IfOk result (λ text. string_bytes text
         ≡ integer_text (integer_value (integer_parts lit.now))) }
@@ -329,7 +329,7 @@ pub fn integer_text<B: Buffer>(alloc: Global, lit: &IntegerLit<B>) -> Result<Str
 ///
 /// # Errors
 ///
-/// `AllocError` if an allocation fails.
+/// Returns `AllocError` if an allocation fails.
 pub fn names_that_fit<B: Buffer>(alloc: Global, lit: &IntegerLit<B>) -> Result<String, AllocError>
     ensures { IfOk result (λ names. string_bytes names
         ≡ names_that_fit (integer_value (integer_parts lit.now))) }
@@ -386,7 +386,7 @@ fn push_float<B: Buffer>(out: &mut String, lit: &FloatLit<B>) -> Result<(), Allo
 ///
 /// # Errors
 ///
-/// `AllocError` if an allocation fails.
+/// Returns `AllocError` if an allocation fails.
 pub fn float_text<B: Buffer>(alloc: Global, lit: &FloatLit<B>) -> Result<String, AllocError>
     ensures { IfOk result (λ text. IsValueText (float_parts lit.now) (string_bytes text)) }
 {
@@ -419,7 +419,7 @@ pub fn float_type<B: Buffer>(lit: &FloatLit<B>) -> FloatType
 ///
 /// # Errors
 ///
-/// `AllocError` if an allocation fails.
+/// Returns `AllocError` if an allocation fails.
 pub fn float_number<B: Buffer>(
     alloc: Global,
     lit: &FloatLit<B>,

@@ -58,7 +58,7 @@ pub fn unescape(
 ///
 /// # Errors
 ///
-/// Like [`unescape`].
+/// Returns the errors of [`unescape`].
 #[inline(always)]
 pub fn unescape_with(input: &str, allowed: Switches) -> Result<(Unescape, usize), ParseError>
     requires { IsTrue (is_empty (chars input.now)

@@ -75,8 +75,8 @@ fn cut_raw(input: &str, offset: usize, allowed: Switches) -> Result<(u8, usize),
 ///
 /// # Errors
 ///
-/// The kind and the span of [`scan_raw_string`] if the hashes end the text, a character other than
-/// `"` follows them, or text follows more than 255. No such kind is open.
+/// Returns the kind and the span of [`scan_raw_string`] if the hashes end the text, a character
+/// other than `"` follows them, or text follows more than 255. No such kind is open.
 ///
 /// [ref]: https://doc.rust-lang.org/reference/tokens.html#raw-string-literals
 #[inline(always)]

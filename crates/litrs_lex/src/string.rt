@@ -70,7 +70,7 @@ pub fn unescape_string<C: EscapeContainer>(
 ///
 /// # Errors
 ///
-/// Like [`unescape_string`].
+/// Returns the errors of [`unescape_string`].
 #[inline(always)]
 pub fn unescape_string_with<C: EscapeContainer, A: Allows>(
     alloc: Global,

@@ -50,8 +50,8 @@ impl<'a> Token<'a> {
     ///
     /// # Errors
     ///
-    /// Why the text of a `MalformedLiteral` is not a literal, as [`Literal::parse`] says it. The
-    /// spans count from the start of the source. `OutOfMemory` if an allocation fails.
+    /// Returns the error of [`Literal::parse`] for the text of a `MalformedLiteral`. The spans
+    /// count from the start of the source. Returns `OutOfMemory` if an allocation fails.
     pub fn literal(&self, alloc: Global) -> Result<Option<Literal<&'a str>>, ParseError>
         ensures found { IfOk result (λ found. IfSome found (λ literal.
             IsTrue (begins_literal self.now.kind)

@@ -61,7 +61,7 @@ pub fn first_token(text: &str) -> Option<Token<'_>>
 ///
 /// # Errors
 ///
-/// If an allocation fails.
+/// Returns `AllocError` if an allocation fails.
 pub fn all_tokens(alloc: Global, text: &str) -> Result<Vec<Token<'_>>, AllocError>
     ensures tokens { IfOk result (λ found. AreTokens text.now text.now found.items []) }
     ensures spells { IfOk result (λ found. spelled found.items ≡ text.now) }

@@ -47,7 +47,7 @@ pub fn as_literal(tree: &TokenTree, expected: TokenKind) -> Result<&Literal, Inv
 ///
 /// # Errors
 ///
-/// Like [`as_literal`]. `tree` is then dropped.
+/// Returns the errors of [`as_literal`]. `tree` is then dropped.
 pub fn into_literal(tree: TokenTree, expected: TokenKind) -> Result<Literal, InvalidToken>
     ensures ok { IfOk result (λ literal. shape_of tree ≡ a_literal literal) }
     ensures none { OnErr result (IsNoLiteral (shape_of tree)) }

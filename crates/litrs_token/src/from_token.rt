@@ -77,7 +77,7 @@ pub trait FromToken: Drop {
     ///
     /// # Errors
     ///
-    /// Like [`from_literal`](FromToken::from_literal).
+    /// Returns the errors of [`from_literal`](FromToken::from_literal).
     fn from_literal_ref(alloc: Global, literal: &Literal) -> Result<Self, Self::Error>
         ensures raw { IfOk result (λ lit. raw lit ≡ literal.now.text) }
         ensures wanted { OnOk result (IsWantedKind wanted literal.now.kind) }
@@ -113,7 +113,7 @@ pub trait FromToken: Drop {
     ///
     /// # Errors
     ///
-    /// Like [`from_tree`](FromToken::from_tree).
+    /// Returns the errors of [`from_tree`](FromToken::from_tree).
     fn from_tree_ref(alloc: Global, tree: &TokenTree) -> Result<Self, TokenError>
         ensures raw { IfOk result (λ lit. raw lit ≡ text_of (shape_of tree.now)) }
         ensures wanted { OnOk result (IsWanted wanted (shape_of tree.now)) }

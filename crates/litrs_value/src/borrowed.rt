@@ -20,15 +20,15 @@ use std::alloc::Global;
 use std::borrow::CowStr;
 
 /// Reads a text that is one string. Returns its value, which is borrowed from `text` unless the
-/// string contains an escape.
+/// string is quoted and contains a backslash.
 ///
 /// For example, `"a"` is the borrowed `a`, and `"a\n"` an owned text. It allocates only if the
 /// parse does: for escapes, and for a C string, which is not a string.
 ///
 /// # Errors
 ///
-/// Those of [`read`](crate::read) for a `String`, with [`Str`](ValueType::Str) as the expected
-/// type.
+/// Returns the errors of [`read`](crate::read) for a `String`, with [`Str`](ValueType::Str) as the
+/// expected type.
 pub fn read_str<'a>(alloc: Global, text: &'a str) -> Result<CowStr<'a>, ValueError>
     ensures value { IfOk result (λ value. (d : Derivation) × IsReadAs text.now d
         × HasValueOf ValueType.Str (is_negative text.now) d
@@ -46,15 +46,15 @@ pub fn read_str<'a>(alloc: Global, text: &'a str) -> Result<CowStr<'a>, ValueErr
 }
 
 /// Takes the value out of a string that is already parsed. Over `&str` it is borrowed from the text
-/// unless the string contains an escape; over `String` it is owned. `negative` is `true` if a minus
-/// sign precedes `literal`.
+/// unless the string is quoted and contains a backslash; over `String` it is owned. `negative` is
+/// `true` if a minus sign precedes `literal`.
 ///
 /// It does not allocate.
 ///
 /// # Errors
 ///
-/// The first of `Kind`, `Sign` and `Suffix` that applies, with [`Str`](ValueType::Str) as the
-/// expected type.
+/// Returns the first of `Kind`, `Sign` and `Suffix` that applies, with [`Str`](ValueType::Str) as
+/// the expected type.
 pub fn into_str<B: Buffer>(negative: bool, literal: Literal<B>) -> Result<B::Cow, ValueError>
     ensures value { IfOk result (λ value.
         string_of (derivation literal) ≡ Some (B.cow_bytes value)) }

@@ -69,7 +69,7 @@ fn with_sign<F: FastFloat>(negative: bool, value: F) -> F
 ///
 /// # Errors
 ///
-/// `AllocError` if there is no memory for the digits without underscores.
+/// Returns `AllocError` if there is no memory for the digits without underscores.
 pub fn integer_float<F: FastFloat, B: Text>(
     alloc: Global,
     lit: &IntegerLit<B>,
@@ -119,7 +119,7 @@ fn digits<B: Text>(lit: &IntegerLit<B>) -> &[u8]
 ///
 /// # Errors
 ///
-/// `AllocError` if there is no memory for the digits without underscores.
+/// Returns `AllocError` if there is no memory for the digits without underscores.
 pub fn float<F: FastFloat, B: Text>(alloc: Global, lit: &FloatLit<B>) -> Result<F, AllocError>
     ensures value { IfOk result (λ x.
         F.value x ≡ float_value F.format false (float_parts lit.now)) }

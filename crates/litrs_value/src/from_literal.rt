@@ -41,7 +41,7 @@ pub trait FromLiteral: sealed::Sealed + Sized {
     ///
     /// # Errors
     ///
-    /// The first of `Kind`, `Sign`, `Suffix` and `OutOfRange` that applies, or `Memory`.
+    /// Returns the first of `Kind`, `Sign`, `Suffix` and `OutOfRange` that applies, or `Memory`.
     fn from_literal(
         alloc: Global,
         negative: bool,

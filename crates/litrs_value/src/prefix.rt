@@ -64,7 +64,7 @@ impl fmt::Display for PrefixError {
 ///
 /// # Errors
 ///
-/// The error of [`read`](crate::read) for the literal with its sign; or
+/// Returns the error of [`read`](crate::read) for the literal with its sign; or
 /// [`Malformed`](ValueError::Malformed) if a literal begins and is not valid. `text` can be cut at
 /// both ends of the [`marked_span`](PrefixError::marked_span) of the error.
 pub fn read_prefix<T: FromLiteral>(

@@ -18,15 +18,15 @@ use std::alloc::Global;
 /// the `u8` 97. Every value of a signed type can be read, the least one too. A suffix must be the
 /// name of the type, and a float must be finite.
 ///
-/// It allocates for a string, a byte string and a C string, and for a number with underscores at a
-/// float type. See [the reference][ref].
+/// It allocates for a string, a byte string and a C string. At a float type it does for a number
+/// with underscores, but for an integer only in base ten from 2^64 on. See [the reference][ref].
 ///
 /// [ref]: https://doc.rust-lang.org/reference/expressions/literal-expr.html
 ///
 /// # Errors
 ///
-/// [`Malformed`](ValueError::Malformed) if the text without its sign is not a literal, else the
-/// errors of [`from_literal`](FromLiteral::from_literal). `text` can be cut at both ends of the
+/// Returns [`Malformed`](ValueError::Malformed) if the text without its sign is not a literal, else
+/// the errors of [`from_literal`](FromLiteral::from_literal). `text` can be cut at both ends of the
 /// [`marked_span`](ValueError::marked_span) of the error.
 pub fn read<T: FromLiteral>(alloc: Global, text: &str) -> Result<T, ValueError>
     ensures value { IfOk result (λ value. (d : Derivation) × IsReadAs text.now d

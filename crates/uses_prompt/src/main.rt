@@ -30,7 +30,7 @@ const HINT: &str =
 ///
 /// # Errors
 ///
-/// `AllocError` if an allocation fails.
+/// Returns `AllocError` if an allocation fails.
 fn answer_to(alloc: Global, text: &str) -> Result<String, AllocError>
     ensures { IfOk result (λ answer. IsAnswerTo text.now (string_bytes answer)) }
 {
@@ -46,7 +46,7 @@ fn answer_to(alloc: Global, text: &str) -> Result<String, AllocError>
 ///
 /// # Errors
 ///
-/// `AllocError` if an allocation fails.
+/// Returns `AllocError` if an allocation fails.
 fn answer(alloc: Global, collector: &mut Collector, line: &str) -> Result<String, AllocError>
     ensures { IfOk result (λ a. IsAnswered collector.old line.now collector.new (string_bytes a)) }
 {
@@ -78,7 +78,7 @@ fn last_answer(alloc: Global, collector: Collector) -> Result<String, AllocError
 ///
 /// # Errors
 ///
-/// An error if an allocation fails.
+/// Returns an error if an allocation fails.
 fn reply(alloc: Global, collector: &mut Collector, line: &[u8]) -> io::Result<Option<String>>
     ensures quits { IfOk result (λ reply. IsNone reply ↔ Quits line.now) }
     ensures answered { IfOk result (λ reply. IfSome reply (λ answer.
