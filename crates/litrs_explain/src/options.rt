@@ -13,7 +13,7 @@ const VERSION: &str = "1.0.1-rattle.2";
 /// The formats of reports.
 const FORMATS: [&str; 2] = ["text", "json"];
 
-/// When reports are colored.
+/// The choices of color.
 const COLORS: [&str; 3] = ["auto", "always", "never"];
 
 /// The comments of a text.
@@ -41,10 +41,10 @@ impl Options {
     }
 }
 
-/// When reports are colored.
+/// A choice of when reports are colored.
 #[derive(Clone, Copy)]
 pub(crate) enum ColorChoice {
-    /// If they go to a terminal that wants colors.
+    /// Reports are colored if they go to a terminal that wants colors.
     Auto,
     Always,
     Never,

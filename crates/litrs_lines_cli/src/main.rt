@@ -1,4 +1,4 @@
-//! Reads literals, one a line, from standard input, and writes a report on each to standard output.
+//! Reads lines from standard input, and writes a report on each group of lines to standard output.
 //!
 //! The status is 0, or 1 with one line on standard error. Arguments are ignored.
 #![tactic(auto)]
