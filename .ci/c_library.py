@@ -1,27 +1,30 @@
 #!/usr/bin/env python3
-"""Tries the C library, as it is installed, from C, C++ and Python.
+"""Tests the installed C library from C, C++ and Python.
 
     .ci/c_library.py
 
-After `rt ci`: proves crates/litrs_c over the libraries that it left, builds its archive, and
-installs it by crates/litrs_c/build into a folder of its own, from which all else is built by what
-pkg-config says. Both libraries there define the calls of litrs.h and no other name. The header
-compiles by each standard of C and C++ that the compilers at hand know.
+Runs after `rt ci`. Proves crates/litrs_c over the libraries that `rt ci` left, and builds its
+archive. Installs it by crates/litrs_c/build into a temporary folder. Everything else is built from
+that folder with the flags of pkg-config. Both libraries there must define the calls of litrs.h and
+no other name. The header must compile by each standard of C and C++ that the compilers at hand
+know.
 
-Each row of the table of `litrs_vectors` that is about literals of any kind, about what texts begin,
-or about the literal at their front, and whose text has at most 65,536 bytes, has to be answered as
-it says by the C program .ci/c_library.c and by the module litrs.py, with the names, descriptions
-and marks that docs/GRAMMAR.md has; each prefix of its text, at each byte, has to be refused as not
-UTF-8 where Python does not decode it, and answered alike by both. Where valgrind is at hand the
-program runs under it over the texts of the rows. The samples of crates/litrs_c/README.md have to
-print what the page has below them, built and run by the lines of that page, those in C as programs in
-C++ too. Each text of crates/litrs_lexer/tokens has the tokens of its row, and every text has the
-same tokens by both. What else of the module is tried, python_module.py says. Numbers that
-float_numbers.py draws, of which many lie halfway between two floats, have the double and the float
-nearest to them. A parse takes at most a tenth more instructions than bench/figures.txt says.
+Runs the C program .ci/c_library.c and the module litrs.py on the rows of the table of
+`litrs_vectors` whose texts have at most 65,536 bytes. These are the rows on literals of any kind,
+on the starts of literals, and on the literal at the front of a text. Both must return the result of
+the row, with the names, descriptions and marks of docs/GRAMMAR.md. Each prefix of a text, cut at
+each byte, must be rejected as not UTF-8 if Python does not decode it. Both must return the same for
+it. If valgrind is at hand, the program runs under it over the texts of the rows.
 
-Of crates/litrs_c/build: its help, wrong arguments, what it installs below DESTDIR and removes, the
-versions that pkg-config finds, and a folder that is moved to a name with a blank.
+The samples of crates/litrs_c/README.md are built and run by the lines of that page, and must print
+the block below them. Those in C are built as C++ too. Each text of crates/litrs_lexer/tokens must
+have the tokens of its row, and every text the same tokens from both. python_module.py has the other
+tests of the module. float_numbers.py draws numbers, many of them halfway between two floats. Each
+must have the double and the float nearest to it. A parse must take at most a tenth more
+instructions than bench/figures.txt lists.
+
+Tests crates/litrs_c/build too: its help, wrong arguments, the files that it installs below DESTDIR
+and removes, the versions that pkg-config finds, and a folder that is moved to a name with a blank.
 """
 import concurrent.futures
 import ctypes
@@ -58,22 +61,23 @@ NAMES = "Bool Integer Float Char Byte String ByteString CString".split()
 TOKENS = {int(number): name.title().replace("_", "")
           for name, number in re.findall(r"LITRS_TOKEN_(\w+) = (\d+)", HEADER)}
 TRIVIA = ["Whitespace", "LineComment", "BlockComment", "UnterminatedBlockComment"]
-# A comment that documents the item after it begins so.
+# The start of a documentation comment on the item after it.
 OUTER = rb"///(?!/)|/\*\*(?![*/])"
-# Longer texts are left to the program litrs_vectors; of those from the second length on no prefixes
-# are tried, and they are not tried by valgrind.
+# The length of the longest text: litrs_vectors tries the longer ones. The length from which on
+# the prefixes of a text are not tried, and the text is not tried under valgrind.
 LONGEST, PREFIXED = 65536, 1000
 
 
 def flat(value):
-    """The numbers of a structure, in the order of its fields."""
+    """Returns the numbers of a structure, in the order of its fields."""
     if not isinstance(value, ctypes.Structure):
         return [int(value)]
     return [it for name, _ in value._fields_ for it in flat(getattr(value, name))]
 
 
 def written(call, text):
-    """Returns what a call writes: first how much, then all of it."""
+    """Returns the status, the length and the bytes that a call writes. Calls it without room
+    first."""
     sized = call(text, len(text), b"", 0)
     room = ctypes.create_string_buffer(sized.len + 1)
     again = call(text, len(text), room, sized.len)
@@ -82,8 +86,8 @@ def written(call, text):
 
 
 def answer_of(module, text):
-    """Returns the fields as the C program prints them: up to the message, of the front, and the
-    tokens."""
+    """Returns the fields of a text as the C program prints them: those up to the message, those of
+    `litrs_prefix`, and the tokens."""
     calls = module._calls
     fields = flat(calls["parse"](text, len(text)))
     fields.append(int(calls["goes_on"](text, len(text))))
@@ -92,7 +96,7 @@ def answer_of(module, text):
 
 
 def tokens_of(module, text):
-    """The tokens of a text, as the C program prints them."""
+    """Returns the tokens of a text as the C program prints them."""
     found, cursor, token = [], module._Cursor(), module._Token()
     if not module._calls["check"](text, len(text), cursor):
         return "-"
@@ -104,11 +108,12 @@ def tokens_of(module, text):
 
 @dataclasses.dataclass
 class Wanted:
-    """The wanted answers on a text: the fields, None if nothing is known of one, how often
-    memory is to be asked for by each call but litrs_goes_on, the status and length of what
-    is at its front, the fields of the object or exception of the module, and of a number the
-    bits of the double and of the float, and how often memory is to be asked for each; and the
-    tokens, as the C program prints them."""
+    """The wanted results for a text.
+
+    These are the fields, each `None` if it is unknown, and the number of allocations of each call
+    except litrs_goes_on. The status and length of the literal at the front follow, and the fields
+    of the object or exception of the module. A number has the bits of the double and of the float
+    too, with the number of allocations for each. The tokens are as the C program prints them."""
 
     text: bytes
     fields: list
@@ -120,7 +125,7 @@ class Wanted:
 
 
 def bytes_of(field):
-    """The text of a field of the table."""
+    """Returns the text of a field of the table."""
 
     def part(found):
         if found[1]:
@@ -132,8 +137,8 @@ def bytes_of(field):
 
 
 def kinds_of_refusals():
-    """The description and the mark of each kind, in the order of the table in docs/GRAMMAR.md, and
-    its number by the header."""
+    """Returns the description, the mark and the number in the header of each error kind, in the
+    order of the table in docs/GRAMMAR.md."""
     page = (TOP / "docs/GRAMMAR.md").read_text()
     rows = re.findall(r"^\| `([A-Z]\w+)` \| (`+) ?(.*?) ?\2 \|(?: (\w+))? \|", page, re.M)
     numbers = dict(re.findall(r"LITRS_ERROR_(\w+) = (\d+)", HEADER))
@@ -148,7 +153,7 @@ def kinds_of_refusals():
 
 
 def literal_fields(text, kind, suffix, parts):
-    """The fields of litrs_literal of a row."""
+    """Returns the fields of litrs_literal for a row."""
     number, main, fraction, exponent, base, raw = None, (0, 0), (0, 0), (0, 0), 0, False
     end = len(text) - len(suffix)
     if kind == "bool":
@@ -183,7 +188,7 @@ def wanted_of_literal(text, kind, suffix, parts):
 
 
 def python_of_literal(text, kind, suffix, parts):
-    """The fields of the object of the module of a row."""
+    """Returns the fields of the module's object for a row."""
     base, raw, main, fraction, exponent, value = 0, False, "", None, "", None
     if kind == "bool":
         value = parts[0] == b"true"
@@ -219,7 +224,8 @@ def wanted_of_refusal(text, kinds, name, spans, printed):
 
 
 def wanted_of_front(text, words):
-    """Returns what a row on the front of a text wants: the last of its words decides."""
+    """Returns the wanted results of a row on the literal at the front of a text. The last of its
+    words decides."""
     if words[-1].isdigit():
         front = (LITERAL, int(words[-1]))
     else:
@@ -228,7 +234,7 @@ def wanted_of_front(text, words):
 
 
 def wanted_of_rows(kinds):
-    """Yields what the rows of the table want of the calls."""
+    """Yields the wanted results of the rows of the table."""
     table = (TOP / "crates/litrs_vectors/stdin").read_bytes()
     for line in table.split(b"\n"):
         if not line or line.startswith(b"#"):
@@ -251,7 +257,7 @@ def wanted_of_rows(kinds):
 
 
 def wanted_of_tokens():
-    """Yields what the rows of the table of tokens want."""
+    """Yields the wanted results of the rows of the table of tokens."""
     numbers = {name: number for number, name in TOKENS.items()}
     for _, row, _ in tokens.rows():
         text, printed = b"", ""
@@ -265,7 +271,8 @@ def wanted_of_tokens():
 
 
 def wanted_of_prefixes(rows):
-    """Of each prefix of their texts, at each byte, whether it is UTF-8."""
+    """Yields the wanted results of each prefix of the texts, cut at each byte: whether it is
+    UTF-8."""
     texts = [it.text for it in rows if len(it.text) < PREFIXED]
     for text in {it[:end] for it in texts for end in range(len(it))}:
         try:
@@ -277,9 +284,9 @@ def wanted_of_prefixes(rows):
 
 
 def fields_of(line):
-    """Returns the fields that the C program printed of a text: `answer_of`, the statuses with
-    every allocation refused and how often memory was asked for, those of the front, what
-    litrs_f64 and litrs_f32 answer, and the tokens."""
+    """Returns the fields that the C program printed for a text: those of `answer_of`, the statuses
+    if every allocation fails, the numbers of allocations, both for the literal at the front, the
+    results of litrs_f64 and litrs_f32, and the tokens."""
     fields = [it if it.endswith(".") else int(it) for it in line.split()]
     *fields, walked = [it[:-1] if isinstance(it, str) else it for it in fields]
     return fields[:31] + fields[38:-10], fields[31:38], fields[-10:-8], fields[-8:], walked
@@ -290,7 +297,7 @@ def status_without_memory(status, needs_memory):
 
 
 def faults_of_front(wanted, fields, refused, asked):
-    """Yields the faults of the answer on the front of a text."""
+    """Yields the faults of the result for the literal at the front of a text."""
     *answer, length = fields[31:]
     if any(it is not None and it != got for it, got in zip(wanted.front, (answer[0], length))):
         yield f"wanted {wanted.front} at the front, got {answer[0], length}"
@@ -321,7 +328,7 @@ def faults_of_numbers(wanted, fields, by_parse, numbers):
 
 
 def faults_of(wanted, from_c, from_python):
-    """Yields the faults of the answers on a text."""
+    """Yields the faults of the results for a text."""
     fields, refused, front, numbers, walked = fields_of(from_c)
     *from_python, walked_by_python = from_python
     if walked != walked_by_python or wanted.tokens not in (None, walked):
@@ -344,7 +351,7 @@ def faults_of(wanted, from_c, from_python):
 
 
 def outcome(call, *words):
-    """Returns the answer of the call of the module: its fields, or those of its exception."""
+    """Returns the fields of the object that a call of the module returns, or of its exception."""
     try:
         answer = call(*words)
     except ValueError as e:
@@ -353,7 +360,7 @@ def outcome(call, *words):
 
 
 def fields_of_error(error, in_bytes, wanted):
-    """The fields of an exception, with the span that is not asked for as it is wanted."""
+    """Returns the fields of an exception. The span that is not compared is the wanted one."""
     spans = [list(error.span), wanted[2]] if error.span else [None, None]
     if error.span and not in_bytes:
         spans = [wanted[1], list(error.span)]
@@ -407,7 +414,7 @@ def faults_of_walk(module, data, text):
 
 
 def faults_of_piece(module, token, offset):
-    """Yields the faults of the literal of a token, which begins at this byte of its source."""
+    """Yields the faults of the literal of a token that begins at byte `offset` of its source."""
     whole, literal = outcome(module.parse, token.text), outcome(token.literal)
     if token.kind == "Literal":
         same = isinstance(literal, module.Literal) and repr(literal) == repr(whole)
@@ -427,7 +434,7 @@ def faults_of_piece(module, token, offset):
 
 
 def faults_of_call(module, wanted, text, whole):
-    """Yields the faults of the answer of `parse` of the module on a text."""
+    """Yields the faults of the result of the module's `parse` for a text."""
     if wanted.fields[0] == NOT_UTF8 and not isinstance(whole, UnicodeDecodeError):
         yield f"{whole!r}, which is not UTF-8"
     if wanted.python is None:
@@ -468,29 +475,29 @@ def build(folder):
 
 
 def run_build(folder, archive, *words, **more):
-    """Runs the script of the crate in this folder."""
+    """Runs the build script of the crate in `folder`."""
     environment = os.environ | {"LITRS_C_ARCHIVE": str(archive)} | more
     how = {"capture_output": True, "text": True, "check": False, "cwd": folder}
     return subprocess.run([CRATE / "build", *words], env=environment, **how)
 
 
 def told(*words, **more):
-    """Returns what a command prints."""
+    """Returns the output of a command."""
     return subprocess.run(words, check=True, capture_output=True, text=True, **more).stdout
 
 
 def flags(installed, *words):
-    """Returns what pkg-config says of the library that is installed."""
+    """Returns the flags that pkg-config prints for the installed library."""
     return shlex.split(told("pkg-config", *words, "litrs", env=paths_of(installed)))
 
 
 def paths_of(installed):
-    """The environment in which pkg-config finds the library that is installed."""
+    """Returns the environment in which pkg-config finds the installed library."""
     return os.environ | {"PKG_CONFIG_PATH": str(installed / "lib/pkgconfig")}
 
 
 def compiled(compiler, installed, out, source, *more):
-    """Compiles a program over what is installed: without more words over the shared library."""
+    """Compiles a program over the installed library, the shared one if `more` is empty."""
     libs = flags(installed, "--libs") + [f"-Wl,-rpath,{installed}/lib"]
     cflags = flags(installed, "--cflags")
     words = [*compiler, *WARNINGS, *cflags, "-o", out, source, "-x", "none", *(more or libs)]
@@ -499,7 +506,7 @@ def compiled(compiler, installed, out, source, *more):
 
 
 def faults_of_names(installed):
-    """Names that the libraries define beside the calls of the header, and calls that they lack."""
+    """Yields the libraries that define other names than the calls of the header."""
     calls = set(re.findall(r"^(?!LITRS_INLINE|.*typedef)\w[\w ]* (litrs_\w+)\(", HEADER, re.M))
     for name, how in (("liblitrs.so", "-D"), ("liblitrs.a", "-g")):
         lines = told("nm", how, "--defined-only", "-P", installed / "lib" / name).splitlines()
@@ -511,8 +518,8 @@ def faults_of_names(installed):
 
 
 def faults_of_versions(installed, module):
-    """Installed versions that differ from that of the header, and conditions on that of litrs.pc
-    that pkg-config decides wrongly."""
+    """Yields the installed versions that differ from that of the header, and the conditions on the
+    version of litrs.pc that pkg-config decides wrongly."""
     version = re.search(r'LITRS_VERSION "(.*)"', HEADER)[1]
     upstream, release = re.fullmatch(r"(\d+\.\d+\.\d+)-rattle\.(\d+)", version).groups()
     description = (installed / "lib/pkgconfig/litrs.pc").read_text()
@@ -534,7 +541,7 @@ def faults_of_versions(installed, module):
 
 
 def faults_of_words(folder, archive):
-    """Yields the faults of the script's help, and of wrong arguments, with which it is silent."""
+    """Yields the faults of the script's help, and of runs with wrong arguments."""
     room = folder / "words"
     room.mkdir()
     wrong = [[], [""], ["--nothing"], ["a", "b"], ["a", "--nothing"], ["--uninstall"]]
@@ -578,7 +585,7 @@ def faults_of_removal(folder, archive):
 
 
 def blocks_of_page(language):
-    """The blocks of the page of the crate in this language."""
+    """Returns the blocks in `language` of the page of the crate."""
     page = (CRATE / "README.md").read_text()
     return re.findall(rf"^```{language}\n(.*?)^```", page, re.M | re.S)
 
@@ -604,8 +611,8 @@ def faults_of_move(folder, installed):
 
 
 def try_header(folder):
-    """Compiles the header twice in a program, by each standard that a compiler at hand knows.
-    Returns by how many, and the faults."""
+    """Compiles a program that includes the header twice, by each standard that a compiler at hand
+    knows. Returns the number of standards, and the faults."""
     tried, faults = 0, []
     for language, compilers in COMPILERS.items():
         paths = {os.path.realpath(it) for it in map(shutil.which, compilers) if it}
@@ -623,7 +630,8 @@ def try_header(folder):
 
 
 def try_valgrind(program, rows):
-    """Runs the program under valgrind over the shorter texts. Returns how many, and the faults."""
+    """Runs the program under valgrind over the shorter texts. Returns their number, and the
+    faults."""
     if not shutil.which("valgrind"):
         print("c library: there is no valgrind here, which was not tried")
         return 0, []
@@ -635,8 +643,8 @@ def try_valgrind(program, rows):
 
 
 def try_texts(folder, installed, module):
-    """Tries all texts from C, and from Python by some threads at once. Returns how many there are,
-    and the faults."""
+    """Tries all texts from C, and from Python in several threads at once. Returns the number of
+    texts, and the faults."""
     wrap = "-Wl,--wrap=malloc,--wrap=realloc,--wrap=free"
     archive = installed / "lib/liblitrs.a"
     source = TOP / ".ci/c_library.c"
@@ -660,15 +668,15 @@ def try_texts(folder, installed, module):
 
 
 def faults_of_steps(folder, installed):
-    """Texts that take more instructions than the table of the benchmark says."""
+    """Returns the texts that take more instructions than the table of the benchmark lists."""
     archive, source = installed / "lib/liblitrs.a", TOP / ".ci/parses.c"
     program = compiled(["cc", "-std=c99"], installed, folder / "parses", source, archive)
     return instructions.faults_of(folder, program)
 
 
 def faults_of_kinds(module, kinds):
-    """Names that the library gives numbers and that are not those of the kinds, and the version
-    where it is not that of the header."""
+    """Yields the numbers whose names in the library are not those of the kinds, and the version if
+    it is not that of the header."""
     if module.version() != re.search(r'LITRS_VERSION "(.*)"', HEADER)[1]:
         yield f"the library has the version {module.version()}"
     errors = {number: name for name, (number, _, _) in kinds.items()}
@@ -683,8 +691,8 @@ def faults_of_kinds(module, kinds):
 
 
 def faults_of_samples(folder, installed):
-    """Yields the faults of the samples of the crate's page, built and run by its lines. Each has
-    to print the block of its place, those in C before those in Python."""
+    """Yields the faults of the samples of the crate's page, built and run by its lines. The Nth
+    sample must print the Nth block of output. Those in C come before those in Python."""
     in_c, in_python, printed = map(blocks_of_page, ("c", "python", "text"))
     dynamic, others, path = (it.replace("PREFIX", str(installed)) for it in blocks_of_page("sh"))
     others, path = (dynamic.splitlines(True)[0] + it for it in (others, path))
@@ -703,7 +711,7 @@ def faults_of_samples(folder, installed):
 
 
 def faults_of_runs(folder, runs):
-    """The lines of a shell that do not print what is wanted, or that fail."""
+    """Yields the shell lines that fail, or that do not print the wanted text."""
     for lines, wanted in runs:
         ran = run_shell(folder, lines, os.environ)
         if (ran.stdout, ran.stderr, ran.returncode) != (wanted, "", 0):

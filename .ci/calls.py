@@ -1,17 +1,17 @@
 #!/usr/bin/env python3
-"""Compares the pages CALLING.md with what their crates make public.
+"""Compares the pages CALLING.md with the public items of their crates.
 
     .ci/calls.py
 
-The table below "Types" has the enums and structs: in the last cell of a line are the variants or
+The table below "Types" has the enums and structs. The last cell of a line has the variants or
 public fields of each type of its first cell, as they are declared. Below "All calls" each heading
-names types, traits, public modules or the crate, and the first cell of each line of its table has
+names types, traits, public modules or the crate. The first cell of each line of its table has
 calls of each of them, with their signatures. A call `Owner::call(..)` is of this owner alone. A
-parameter is `name: Type` or `Type`, and `alloc` is `alloc: Global`; lifetimes may be left out, and
-`..` in an answer is any part of it.
+parameter is `name: Type` or `Type`, and `alloc` is `alloc: Global`. Lifetimes may be left out, and
+`..` in a return type is any part of it.
 
-Fails if a public type, variant, field or function is not listed, if one is listed that is not
-public or is listed twice, and if a signature differs.
+Fails if a public type, variant, field or function is not listed or is listed twice, if a listed one
+is not public, or if a signature differs.
 """
 import functools
 import re
@@ -21,7 +21,7 @@ import libraries
 
 CRATES = libraries.TOP / "crates"
 DECLARED = r"^pub (?:enum|struct|trait|(?:const )?fn) (\w+)"
-# A function, but for its name: its parameters and its answer.
+# A function after its name: its parameters and its return type.
 FUNCTION = r"(?:<[^(]*>)?\(([^)]*)\)(?: -> (.*?))?\s*(?:requires|ensures|\{|;|$)"
 CALL = re.compile(r"`(?:(\w+)::)?(\w+)(?:::<[\w, ]+>)?\(([^)]*)\)(?: -> ([^`]*))?`")
 USED = re.compile(r"^pub use ([\w:]+)::(\{[^}]*\}|\w+);", re.M)
@@ -29,13 +29,14 @@ USED = re.compile(r"^pub use ([\w:]+)::(\{[^}]*\}|\w+);", re.M)
 
 @functools.cache
 def module(crate, path):
-    """The source of a module, by its path from the root, which is empty for the root."""
+    """Returns the source of the module at `path` from the root. The path of the root is empty."""
     file = path.replace("::", "/") or "lib"
     return (CRATES / crate / f"src/{file}.rt").read_text()
 
 
 def declared_in(crate, path, name):
-    """The crate and the module that declare a name, which this module declares or re-exports."""
+    """Returns the crate and the module that declare a name which this module declares or
+    re-exports."""
     if name in re.findall(DECLARED, module(crate, path), re.M):
         return crate, path
     for source, names in USED.findall(module(crate, path)):
@@ -48,7 +49,7 @@ def declared_in(crate, path, name):
 
 
 def exports(crate, path=""):
-    """The names that a module makes public, each with the module and with where it is declared."""
+    """Yields the public names of a module, each with the module and with where it is declared."""
     source = module(crate, path)
     names = re.findall(DECLARED, source, re.M)
     for _, used in USED.findall(source):
@@ -60,7 +61,7 @@ def exports(crate, path=""):
 
 
 def parts(text):
-    """The parts of a list between commas, without comments, attributes and ghost fields."""
+    """Returns the parts of a list between commas, without comments, attributes and ghost fields."""
     text = re.sub(r"^\s*(//|#\[|pub ghost ).*$", "", text, flags=re.M)
     found, depth, part = [], 0, ""
     for c in re.sub(r"->", "→", text):
@@ -75,7 +76,8 @@ def parts(text):
 
 
 def members(source, name):
-    """The variants or the public fields of the type that a source declares, None of a trait."""
+    """Returns the variants or the public fields of a type that `source` declares, or `None` for a
+    trait."""
     declared = rf"^pub (enum|struct) {name}\b[^;{{]*(?:;|{{\n(.*?)^}}$)"
     found = re.search(declared, source, re.M | re.S)
     if not found:
@@ -85,20 +87,20 @@ def members(source, name):
 
 
 def plain(text, owner):
-    """A type without lifetimes, where the owner is `Self`."""
+    """Returns a type without lifetimes, with `Self` for `owner`."""
     text = re.sub(r"<'\w+>|'[a-z_] ", "", " ".join(text.split()))
     return re.sub(rf"(?<!::)\b{owner}\b(<B>)?", "Self", text)
 
 
 def signature(parameters, answer, owner):
-    """The types of the parameters and of the answer of a function."""
+    """Returns the types of the parameters of a function, and its return type."""
     types = [re.sub(r"^mut (?=self$)|^(mut )?\w+: ", "", it) for it in parts(parameters)]
     types = ["Global" if it == "alloc" else plain(it, owner) for it in types]
     return types, plain(answer or "()", owner)
 
 
 def functions_of(crate, path, name):
-    """The public functions of a type or trait, each with its signature."""
+    """Yields the public functions of a type or trait, each with its signature."""
     source = module(crate, path)
     if trait := re.search(rf"^pub trait {name}\b.*?^}}$", source, re.M | re.S):
         blocks, public = [trait[0]], ""
@@ -114,7 +116,7 @@ def functions_of(crate, path, name):
 
 
 def public_of(crate):
-    """The types of a crate with their members, and its calls with their signatures."""
+    """Returns the types of a crate with their members, and its calls with their signatures."""
     types, calls = {}, {}
     for path, name, declaring, place in exports(crate):
         source = module(declaring, place)
@@ -129,13 +131,13 @@ def public_of(crate):
 
 
 def section(page, title):
-    """The part of a page below a heading."""
+    """Returns the part of a page below the heading `title`."""
     found = re.search(rf"^## {title}$(.*?)(?:^## |\Z)", page, re.M | re.S)
     return found[1] if found else ""
 
 
 def listed_types(page):
-    """The types of a page, each with its members."""
+    """Yields the types of a page, each with its members."""
     for line in re.findall(r"^\| `.*", section(page, "Types").split("###")[0], re.M):
         cells = re.split(r"(?<!\\)\|", line)[1:-1]
         for name in re.findall(r"`(\w+)", cells[0]):
@@ -143,7 +145,7 @@ def listed_types(page):
 
 
 def listed_calls(page):
-    """Yields the calls of a page, each with its signature; any other text is a call by its name."""
+    """Yields the calls of a page, each with its signature. Any other text is the name of a call."""
     for part in re.split(r"^### ", section(page, "All calls"), flags=re.M)[1:]:
         head, _, table = part.partition("\n")
         for cell in re.findall(r"^\| (`.*?) \|", table, re.M):
@@ -154,17 +156,17 @@ def listed_calls(page):
 
 
 def is_answer(listed, public):
-    """Returns whether an answer is as listed."""
+    """Returns whether the return type `public` is as listed."""
     return re.fullmatch(re.escape(listed).replace(r"\.\.", ".*"), public)
 
 
 def shown(of):
-    """A signature as text."""
+    """Returns a signature as text."""
     return f"({', '.join(of[0])}) -> {of[1]}"
 
 
 def faults_of(public, listed):
-    """Yields the differences between what is public in a crate and what its page lists."""
+    """Yields the differences between the public items of a crate and those that its page lists."""
     (types, calls), (page_types, page_calls) = public, listed
     names = [it[0] for it in page_types] + ["::".join(it[0]) for it in page_calls]
     wanted = [*types, *("::".join(it) for it in calls)]

@@ -1,18 +1,24 @@
 #!/usr/bin/env python3
-"""Runs the program that explains literals with each of its options.
+"""Runs the program litrs_explain with each of its options.
 
     .ci/explain.py [PROGRAM]..
 
-Runs both builds of crates/litrs_explain, which `rt ci` leaves in its out/, or these programs: JSON,
-whose values are those that Python gives; any text, whose places are counted by Python, and whose
-tokens are those of rustc; comments; literals and comments of many lines, whose time grows with
-their length; colors,
-which change nothing else; files, the standard input and texts, in each order, one of which cannot
-be read; wrong arguments; bytes that are not UTF-8, in a line and in an argument; outputs that are
-closed or full, an input that fails; a terminal; a long text, of which no more is held than its
-longest literal; a long line, of which no report is held; and a long line that is refused again and
-again, where each error is shown at its place, and costs what is around it. Each allocation of a run
-is refused in turn: it ends with status 2, and what it wrote is a prefix.
+Runs both builds of crates/litrs_explain, which `rt ci` leaves in its out/, or the programs given:
+
+- JSON, with the values that Python has;
+- any text, with the places that Python counts and the tokens of rustc; comments;
+- literals and comments of many lines, in a time in proportion to their length;
+- colors, which change nothing else;
+- files, the standard input and texts, in each order, one of which cannot be read;
+- wrong arguments, and bytes that are not UTF-8, in a line and in an argument;
+- outputs that are closed or full, an input that fails, and a terminal;
+- a long text, of which the program holds no more than its longest literal;
+- a long line, of which the program holds no report;
+- a long line with many errors. Each is shown at its place, in a time that depends only on the text
+  around it.
+
+Makes each allocation of a run fail in turn. The run must end with status 2 and write a prefix of
+the reports.
 """
 import ast
 import json
@@ -30,7 +36,7 @@ import tempfile
 TOP = pathlib.Path(__file__).resolve().parent.parent
 PROGRAM = TOP / "crates/litrs_explain/out/litrs_explain"
 BITS = {"8": 8, "16": 16, "32": 32, "64": 64, "128": 128, "size": 64}
-# An integer's text, its digits and its suffix.
+# The text of an integer, its value and its suffix.
 INTEGERS = [
     ("0", "0", ""),
     ("127", "127", ""),
@@ -43,7 +49,7 @@ INTEGERS = [
     (str(2**128 - 1), str(2**128 - 1), ""),
     (str(2**128), str(2**128), ""),
 ]
-# A float's text, and its value as Rust's `{:?}` prints it, or None if it is infinite.
+# The text of a float, and its value as Rust's `{:?}` prints it, or `None` if it is infinite.
 FLOATS = [
     ("1.5", "1.5"),
     ("1.", "1.0"),
@@ -67,9 +73,9 @@ FLOATS = [
     ("1e400", None),
     ("3.5e38f32", None),
 ]
-# A string's text, in Rust and in Python.
+# The text of a string, and its value.
 STRINGS = [('"a\\tb\\\\"', "a\tb\\"), ('"\\u{1f98a}é"', "\U0001f98aé"), ('r#"a"b"#', 'a"b')]
-# A text with what is found in it: a literal, or a malformed one and the part of it that is wrong.
+# A text with what is found in it: each literal, or a malformed one and its wrong part.
 SOURCE = """fn f<'a>(x: &'a str) -> u8 { let s = "a
 b" + foo1 + r#"x"y"# ; 0b12 + 1..2; 'x' }
 // 日本 "\\q" b'\\xff' 1.5e3f32 true_ true
@@ -77,8 +83,8 @@ let t = c"open
 """
 FOUND = ['"a\nb"', 'r#"x"y"#', "0b12:2", "1", "2", "'x'", '"\\q":\\q', "b'\\xff'", "1.5e3f32"]
 FOUND += ["true", 'c"open:c"open']
-# Texts with what is found in them: texts of literals, and names of errors. Those of Rust are the
-# literals that rustc reads in them.
+# Texts, each with the literals and the names of errors that are found in it. The literals are those
+# that rustc reads.
 TOKENS = [
     ('let s = "a\\q\nb"; let n = 1;\nlet t = "x";\n', ["UnknownEscape", "1", '"x"']),
     ('b"é\n" 1 "x"\n', ["NonAsciiInByteLiteral", "1", '"x"']),
@@ -99,7 +105,7 @@ TOKENS = [
     ("'(\n'c'\n", ["UnterminatedCharLiteral", "'c'"]),
     ('1/2 "a//b" 3\n', ["1", "2", '"a//b"', "3"]),
 ]
-# Settings, their comments and their literals.
+# Texts of settings, each with the syntax of its comments and its literals.
 SETTINGS = [
     ("none", 'a = "//" / 1 // "x"\n', ['"//"', "1", '"x"']),
     ("none", "/* 1\n# 2\n*/ 3\n", ["1", "2", "3"]),
@@ -122,7 +128,7 @@ VERSION = f"litrs_explain {re.search('version is ([^ ]+)[.] ', README)[1]}\n".en
 
 
 def place(text, at):
-    """The line and the column of a place in a text, from 1."""
+    """Returns the line and the column of a place in a text, both counted from 1."""
     return text.count("\n", 0, at) + 1, at - text.rfind("\n", 0, at)
 
 
@@ -133,7 +139,7 @@ class Tests:
         self.program, self.number, self.faults = program, 0, []
 
     def run(self, *words, given=b"", **how):
-        """The output, the message and the status of a run."""
+        """Runs the program. Returns its output, message and status."""
         how = {"capture_output": True, "timeout": 120, "check": False} | how
         ran = subprocess.run([self.program, *words], input=given, **how)
         return ran.stdout, ran.stderr, ran.returncode
@@ -144,7 +150,7 @@ class Tests:
             self.faults.append(f"{self.program}: {what}"[:400])
 
     def objects(self, *words, given, status, **how):
-        """The objects of a run with this status."""
+        """Returns the JSON objects of a run that must end with `status`."""
         given = given.encode() if isinstance(given, str) else given
         out, said, was = self.run("--format", "json", *words, given=given, **how)
         self.hold((said, was) == (b"", status), f"{words} ends with {was} and says {said}")
@@ -180,7 +186,7 @@ class Tests:
             self.hold(it == wanted, f"{text}: {it}")
 
     def try_floats(self):
-        """The values of floats, in JSON as numbers with these digits, and in the lines."""
+        """Tries the values of floats: in JSON, as numbers with these digits, and in the lines."""
         lines = "".join(f"{text}\n" for text, _ in FLOATS)
         out, said, status = self.run("--format", "json", given=lines.encode())
         self.hold((said, status) == (b"", 0), f"floats: {said} {status}")
@@ -195,7 +201,7 @@ class Tests:
             self.hold(written in it, f"{text}: {it}")
 
     def try_sign(self):
-        """A line on the sign, if it precedes a number."""
+        """Tries the line on a sign before a number."""
         for text, kind in (("-3", "an integer"), ("-0x1F_u8", "an integer"), ("-1.5e3", "a float")):
             note = f"  a sign is not part of a literal: without it, this is {kind}\n".encode()
             out, _, status = self.run(f"--text={text}")
@@ -212,7 +218,8 @@ class Tests:
         self.hold(it["parts"] == {"hex": ast.literal_eval(it["text"]).hex()}, f"{it}")
 
     def try_places(self):
-        """Places in any text, also where its lines end in CR LF and it begins with a mark."""
+        """Tries places in any text, also if its lines end in CR LF and it begins with a byte order
+        mark."""
         for ends, mark in (("\n", ""), ("\r\n", ""), ("\n", "\ufeff"), ("\r\n", "\ufeff")):
             source = SOURCE.replace("\n", ends)
             words = ["--prefix", "--comments", "none"]
@@ -234,7 +241,8 @@ class Tests:
             self.hold(objects[-1]["incomplete"], "more text can complete the last")
 
     def found(self, *words, given, is_wrong):
-        """The texts of literals and the names of errors in any text, also with CR LF."""
+        """Returns the texts of literals and the names of errors in a text. They must be the same if
+        its lines end in CR LF."""
         wanted = None
         for ends in ("\n", "\r\n"):
             text = given.replace("\n", ends)
@@ -249,7 +257,7 @@ class Tests:
         return wanted
 
     def try_tokens(self):
-        """Literals where others begin, in names and in comments; comments of settings."""
+        """Tries literals within others, in names and in comments, and the comments of settings."""
         for text, wanted in TOKENS:
             is_wrong = any(it[0].isupper() for it in wanted)
             found = self.found(given=text, is_wrong=is_wrong)
@@ -270,7 +278,7 @@ class Tests:
         self.hold(places == [2, 1, given.index("\\q"), given.index("\\q") + 2], f"{it}")
 
     def try_held(self):
-        """The text that is held is dropped with its last line, before the next line is read."""
+        """Tests that the text that is held is dropped before the line after it is read."""
         words = [self.program, "--prefix", "--format", "json"]
         for given in (b'"a\nb"\n1', b'"a\\q\nb" 1\n', b"/*\n*/ 1\n", b"r#\"\n\"# 1\n"):
             child, terminal = pty.fork()
@@ -289,7 +297,8 @@ class Tests:
             os.close(terminal)
 
     def try_many_lines(self):
-        """Literals and comments of many lines: time grows with their length."""
+        """Tests that the time for literals and comments of many lines is in proportion to their
+        length."""
         kinds = [b'"\\q' + b"a\n" * 9, b'r#"' + b'"a"\n' * 9, b"/*" + b"/* a */\n" * 9]
         kinds += [b"/*\n" * 9, b'"' + b'\\"\n' * 9, b"r" + b"#" * 200 + b'"' + b'"#\n' * 9]
         for kind in kinds:
@@ -301,14 +310,14 @@ class Tests:
             self.hold(long < 8 * short + 0.5, f"{kind}: {short} s, and {long} s for four times it")
 
     def try_page(self, folder):
-        """The line of JSON in docs/EXPLAIN.md."""
+        """Tries the line of JSON in docs/EXPLAIN.md."""
         (folder / "a.rs").write_bytes(b"rename = 0xFF_u8\n")
         out, _, _ = self.run("--prefix", "--format", "json", "a.rs", cwd=folder)
         page = (TOP / "docs/EXPLAIN.md").read_text()
         self.hold(f"\n```json\n{out.decode()}```\n" in page, f"the page has other JSON: {out}")
 
     def try_errors(self):
-        """Names of errors, and whether more text can complete what was read."""
+        """Tries the names of errors, and whether more text can complete the input."""
         given = "yes\n1e\n0b12\n'ab'\n\"\\q\"\n\"a\n"
         found = [(it["error"], it["incomplete"]) for it in self.objects(given=given, status=1)]
         wanted = [("InvalidLiteral", False), ("NoExponentDigits", True), ("InvalidDigit", False)]
@@ -319,7 +328,8 @@ class Tests:
             self.hold(out.endswith(note) and status == 1, f"{text}: {out}")
 
     def try_colors(self):
-        """Colors of rustc: the word `error` and carets bold red, the gutter bold blue."""
+        """Tries the colors, which are those of rustc: the word `error` and carets bold red, the
+        gutter bold blue."""
         given = b"1\n0b12\n'a'\n'--> | ab'\n\"a\n\n\nb\n"
         plain = self.run(given=given)
         self.hold(plain == self.run("--color", "never", given=given), "without colors")
@@ -338,7 +348,7 @@ class Tests:
         self.hold(objects == same, "JSON has no colors")
 
     def try_options(self):
-        """A repeated option takes the last; texts; help and version."""
+        """Tries repeated options, of which the last counts, texts, the help and the version."""
         last = self.run("--color", "always", "--color", "never", "-e", "1")
         self.hold(last == self.run("-e", "1") and last[2] == 0, f"the last color: {last}")
         json_first = ["--format", "json", "--format", "text", "--prefix", "--prefix"]
@@ -383,7 +393,7 @@ class Tests:
         self.hold(self.run("b.txt", "--format", "json", cwd=folder)[0][:1] == b"{", "option last")
 
     def try_hints(self, folder):
-        """Hints, which name an option, and texts without hints."""
+        """Tries hints, which name an option, and texts without hints."""
         (folder / "code.rs").write_bytes(b"fn main() {\n    1;\n}\n")
         for text in ("0xFF_u8", '"a/b"', "true"):
             out, said, status = self.run(text, cwd=folder)
@@ -400,7 +410,7 @@ class Tests:
         self.hold(self.run(given=b"1\n2\ncat\n0b12\n")[1] == b"", "no hint of a list")
 
     def try_skipped(self):
-        """Empty lines, and a byte order mark at the front alone."""
+        """Tests that empty lines are skipped, and a byte order mark only at the front."""
         for given in (b"", b"\n", b"\r\n\n", b"\xef\xbb\xbf", b"\xef\xbb\xbf\n"):
             for words in ([], ["--prefix"]):
                 self.hold(self.run(*words, given=given) == (b"", b"", 0), f"{words} {given}")
@@ -413,7 +423,8 @@ class Tests:
         self.hold([bad["column"], bad["start"], bad["end"]] == [2, 4, 5], f"{bad}")
 
     def try_shebang(self, folder):
-        """A shebang is skipped in Rust source alone, and what follows it keeps its place."""
+        """Tests that a shebang is skipped only in Rust source, and that the text after it keeps its
+        place."""
         for shebang in ("#!/usr/bin/env -S run 1 'a'\n", "#! é \" /* 2\r\n", "#!\n"):
             for mark in ("", "\ufeff"):
                 found = self.objects("--prefix", given=mark + shebang + ' "x"\n', status=0)
@@ -442,7 +453,7 @@ class Tests:
         self.hold(it["error"] == "NotUtf8", f"a shebang that is not UTF-8: {it}")
 
     def try_not_utf8(self, folder):
-        """An argument that is not UTF-8 is named, and the others are explained."""
+        """Tests that an argument that is not UTF-8 is named, and that the others are explained."""
         (folder / "b.txt").write_bytes(b"true\r\n")
         (folder / os.fsdecode(b"z\xff\n.txt")).write_bytes(b"true")
         for words in ([b"z\xff\n.txt", b"b.txt"], [b"b.txt", b"z\xff\n.txt"]):
@@ -464,7 +475,7 @@ class Tests:
         self.hold(self.run(b"-e", long)[0].count(long) == 1, "a long argument")
 
     def try_streams(self, folder):
-        """Streams that are closed, full or a directory."""
+        """Tries streams that are closed, full or a directory."""
         (folder / "good.rs").write_bytes(b"true\n")
         absent = b"litrs_explain: missing.rs: No such file or directory (os error 2)\n"
         files = "missing.rs good.rs missing.rs"
@@ -492,7 +503,8 @@ class Tests:
             self.hold(ended == ends, f"{words}: {ended}")
 
     def try_closed(self):
-        """An output that its reader has closed: silence, and the status of what was read."""
+        """Tries an output that its reader has closed. The run is silent, and its status is that of
+        the text that was read."""
         read, write = os.pipe()
         os.close(read)
         runs = [([], b"1\n" * 100_000, 0), (["--help"], b"", 0), (["-V"], b"", 0)]
@@ -506,7 +518,7 @@ class Tests:
         os.close(write)
 
     def try_failing_reads(self, folder):
-        """A read that fails: the reports on the lines that were read are written."""
+        """Tests that the reports on the lines before a failing read are written."""
         library = folder / "fail_io.so"
         words = ["cc", "-shared", "-fPIC", "-o", library, TOP / ".ci" / "fail_io.c"]
         subprocess.run(words, check=True)
@@ -522,7 +534,7 @@ class Tests:
             self.hold(status == 2, f"read {fails} of {piece} bytes fails: {status}")
 
     def on_terminal(self, *words, given, env):
-        """Returns what a run writes to a terminal, whose keyboard gives this."""
+        """Returns the output to a terminal on which `given` is typed, and the status of the run."""
         child, terminal = pty.fork()
         if child == 0:
             try:
@@ -546,7 +558,8 @@ class Tests:
         return written, status
 
     def try_terminal(self):
-        """Colors on a terminal, but where the environment wants none; the end of what is typed."""
+        """Tries colors on a terminal, which the environment can turn off, and the end of the typed
+        input."""
         runs = [({}, True), ({"NO_COLOR": "1"}, False), ({"NO_COLOR": ""}, True)]
         runs += [({"TERM": "dumb"}, False), ({"TERM": "xterm"}, True)]
         for env, is_colored in runs:
@@ -555,12 +568,12 @@ class Tests:
             always = ["--color", "always", "-e", "1"]
             out, status = self.on_terminal(*always, given=b"", env=env)
             self.hold((b"\x1b[" in out, status) == (True, 0), f"{env}: {out} {status}")
-        # (a line without its end, whose end is typed twice)
+        # The line has no LF, so Ctrl-D is typed twice.
         out, status = self.on_terminal("--color", "never", given=b"1\n23\x04\x04", env={})
         self.hold(b"value 1\r\n" in out and b"value 23\r\n" in out and status == 0, f"{out}")
 
     def try_long_line(self, folder):
-        """A line of 1.6 MB, with a report on each of its words; the reports are not held."""
+        """Tests that the reports on the words of a line of 1.6 MB are not held."""
         library, peak = folder / "peak.so", folder / "peak"
         words = ["cc", "-O1", "-shared", "-fPIC", "-o", library, TOP / ".ci" / "peak.c"]
         subprocess.run(words, check=True)
@@ -573,7 +586,7 @@ class Tests:
             self.hold(held < 4 * len(given), f"{words} hold {held} bytes of {len(given)}")
 
     def try_long(self, folder):
-        """A text of 16 MB, in room for a quarter of it."""
+        """Tries a text of 16 MB, in room for a quarter of it."""
         lines = b"let x = 0xFF_u8 + foo(\"a\\n\", 'b'); // 1.5e3\n"
         (folder / "long").write_bytes(lines * (16_000_000 // len(lines)))
         words = f"{self.program} --prefix --comments none {folder}/long"
@@ -582,7 +595,7 @@ class Tests:
         self.hold(ran.stderr == b"" and b"exponent e3" in ran.stdout, f"a long text: {ran}")
 
     def seconds(self, *words, given):
-        """The processor time of a run that refuses something."""
+        """Returns the processor time of a run that reports an error."""
         before = resource.getrusage(resource.RUSAGE_CHILDREN)
         how = {"input": given, "stdout": subprocess.DEVNULL, "timeout": 100, "check": False}
         try:
@@ -594,7 +607,7 @@ class Tests:
         return after.ru_utime + after.ru_stime - before.ru_utime - before.ru_stime
 
     def try_refused(self):
-        """A line of which each word is refused."""
+        """Tries a line with an error in each of its words."""
         wrong, count = "'ab' ", 2000
         line = wrong * count
         objects = self.objects("--prefix", given=line, status=1)
@@ -612,7 +625,7 @@ class Tests:
 
 
     def try_memory(self, folder):
-        """Each allocation refused in turn, over a literal of each kind and some refusals."""
+        """Makes each allocation fail in turn, over a literal of each kind and some errors."""
         library, text, records = (folder / it for it in ("refuse.so", "text", "records"))
         words = ["cc", "-O1", "-shared", "-fPIC", "-o", library, TOP / ".ci" / "refuse.c"]
         subprocess.run(words, check=True)

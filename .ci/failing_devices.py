@@ -1,21 +1,22 @@
 #!/usr/bin/env python3
-"""Makes each read and each write of the program of lines fail in turn, and fall short; then each
-write of the prompt.
+"""Makes each read and each write of litrs_lines_cli fail in turn, and fall short, and each write of
+uses_prompt fail in turn.
 
     .ci/failing_devices.py
 
 Runs both builds of crates/litrs_lines_cli, which `rt ci` leaves in its out/, with reads and writes
-of at most 1, 3 and 4096 bytes. Where none fails, all reports are written. Where a read fails, what
-was written is the reports of the lines that were read to their end; where a write fails, it is a
-prefix of the reports. The message names the device, and the status is 1. An interrupted call is a
+of at most 1, 3 and 4096 bytes. If none fails, all reports must be written. If a read fails, the
+output must be the reports of the lines that were read to their end, and if a write fails, a prefix
+of the reports. The message must name the device, and the status must be 1. An interrupted call is a
 failure.
 
-The program's file `stdin`, and some groups of lines alone, get their reports in pieces of 1, 3 and
-4096 bytes on both sides, and in each cut of the input into two pieces.
+The program's file `stdin`, and some groups of lines alone, must get their reports if the input and
+the output are moved in pieces of 1, 3 and 4096 bytes, and if the input is cut into two pieces at
+any byte.
 
-Runs both builds of crates/uses_prompt too. If its output is closed, it ends silently with status 0,
-and after another failure with a message and status 1. `--help` reads no line, and `:quit` reads no
-line after it.
+Runs both builds of crates/uses_prompt too. If its output is closed, it must end silently with
+status 0, and after another failure with a message and status 1. `--help` must not read a line, and
+`:quit` must not read the line after it.
 """
 import errno
 import itertools
@@ -61,7 +62,7 @@ GROUPS = [
     (b"", b""),
     (b"\xff", b"error input is not UTF-8\n"),
 ]
-# Inputs that end the prompt, with what it writes. Each has one more line, which is not answered.
+# Inputs that end the prompt, with its output. The prompt does not read the last line of each.
 HINT = b"the literal continues on the next line; :cancel drops it, :quit or Ctrl-D ends\n"
 ENDED = [
     (b":quit\n1\n", b"> "),
@@ -79,8 +80,8 @@ class Runs:
         self.number, self.faults = 0, []
 
     def run(self, read_piece, write_piece, lines=LINES, words=(), **changes):
-        """Runs the program. Returns its output, message and status, and how many reads and writes
-        it made."""
+        """Runs the program. Returns its output, message and status, and the numbers of its reads
+        and writes."""
         counts = self.folder / "counts"
         counts.unlink(missing_ok=True)
         environment = {"LD_PRELOAD": str(self.library), "IO_COUNT": str(counts)}
@@ -97,7 +98,7 @@ class Runs:
             self.faults.append(what)
 
     def try_cuts(self, lines, reports):
-        """Runs on an input in pieces, and in each cut into two pieces."""
+        """Runs the program on an input in pieces, and on the input cut into two at each byte."""
         for pieces in itertools.product(PIECES, PIECES):
             answer, _ = self.run(*pieces, lines=lines)
             self.hold(answer == (reports, b"", 0), f"{lines[:40]} in {pieces}: {answer}"[:300])
@@ -106,7 +107,8 @@ class Runs:
             self.hold(answer == (reports, b"", 0), f"{lines[:40]} cut at {at}: {answer}"[:300])
 
     def try_pieces(self, read_piece, write_piece):
-        """Runs with none failing, then with each read and each write failing in turn."""
+        """Runs the program without a failure, then with each read and each write failing in
+        turn."""
         sizes = f"{read_piece} and {write_piece}"
         answer, (reads, writes) = self.run(read_piece, write_piece)
         self.hold(answer == (b"".join(REPORTS), b"", 0), f"{sizes}: {answer}")

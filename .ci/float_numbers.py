@@ -1,7 +1,8 @@
-"""Numbers, and the double and the float nearest to each, for .ci/c_library.py.
+"""Draws numbers, and returns the double and the float nearest to each, for .ci/c_library.py.
 
-The double is that of Python's float, and of strtod of the machine's C library; the float is that of
-its strtof. They read the number without its underscores, an integer in base 2, 8 or 16 in hex.
+The double is that of Python's `float` and of the C library's `strtod`. The float is that of the C
+library's `strtof`. They read the number without its underscores, and an integer in base 2, 8 or 16
+in hexadecimal digits.
 """
 import ctypes
 import decimal
@@ -17,14 +18,14 @@ SUFFIXES = ["", "", "f32", "f64", "x"]
 
 
 def bits_of(letter, value):
-    """Returns the bits of a double, by the letter d, or of a float, by f."""
+    """Returns the bits of `value` as a double if `letter` is `d`, and as a float if it is `f`."""
     size = {"d": "Q", "f": "I"}[letter]
     return struct.unpack(f"<{size}", struct.pack(f"<{letter}", value))[0]
 
 
 def wanted_of(kind, parts):
-    """Returns the bits of the double and of the float nearest to the number with the parts of a
-    row, and how often each call asks for memory; None if it is not a number."""
+    """Returns the bits of the double and of the float nearest to the number of a row, and the
+    number of allocations of each call. Returns `None` if the row is not a number."""
     if kind == "float":
         digits, copies = parts[0].replace(b"_", b""), b"_" in parts[0]
         if float(digits) != C.strtod(digits, None):
@@ -40,7 +41,7 @@ def wanted_of(kind, parts):
 
 
 def drawn():
-    """Yields numbers by their text, kind, suffix and parts: the same in each run."""
+    """Yields the text, kind, suffix and parts of numbers, the same in each run."""
     by = random.Random(1)
     for _ in range(2000):
         yield drawn_float(by)
@@ -58,7 +59,7 @@ def drawn():
 
 
 def digits_of(by, most, first=""):
-    """Returns digits after the first ones; in half of the texts with underscores."""
+    """Returns up to `most` digits after those of `first`, half of the time with underscores."""
     digits = first + "".join(by.choice("0123456789") for _ in range(by.randint(1, most)))
     return grouped(by, digits)
 
@@ -80,8 +81,8 @@ def drawn_float(by):
 
 
 def halfway_points(by, letter):
-    """Yields the number halfway between two neighbors, one that is a bit less, and one that is a
-    bit greater."""
+    """Yields the number halfway between two neighboring floats, a slightly lesser one, and a
+    slightly greater one."""
     size, most = {"d": ("Q", 0x7FEF), "f": ("I", 0x7F7F)}[letter]
     low = by.randrange(most << (8 * struct.calcsize(size) - 16))
     pair = [struct.unpack(f"<{letter}", struct.pack(f"<{size}", it))[0] for it in (low, low + 1)]
@@ -101,7 +102,8 @@ def float_of(integer, fraction, exponent, suffix):
 
 
 def drawn_integer(by):
-    """Returns an integer, half of the time one that is halfway between two floats, or beside it."""
+    """Returns an integer. Half of the time it lies halfway between two floats, or beside such a
+    point."""
     base, size = by.choice(list(PREFIXES)), by.choice([10, 64, 130, 1100])
     value = by.getrandbits(by.randint(1, size))
     if by.random() < 0.5:

@@ -1,7 +1,7 @@
-"""Counts the instructions that the C library takes for a parse, for c_library.py.
+"""Counts the instructions of a parse by the C library, for c_library.py.
 
-Those of malloc, memcpy and other functions of shared libraries are not counted, so the number does
-not depend on the machine.
+Instructions of functions of shared libraries, such as malloc and memcpy, are not counted. So the
+number does not depend on the machine.
 """
 import pathlib
 import re
@@ -12,21 +12,21 @@ from libraries import TOP
 TABLE = TOP / "bench/figures.txt"
 # A line of the table: the text, and the number of instructions.
 LINE = re.compile(r"(\S+) +(\d+)")
-# The numbers of parses of two runs, of which the difference is counted.
+# The numbers of parses of two runs, whose difference is counted.
 FEW, MANY = 10, 110
 # A parse takes at most this multiple of the number in the table.
 MOST = 1.1
 
 
 def table():
-    """Returns the number of instructions for each text, by the table."""
+    """Returns the number of instructions that the table lists for each text."""
     part = TABLE.read_text().partition("Instructions of one `litrs_parse_into`")[2]
     lines = part.split("\n\n")[1].splitlines()[1:]
     return {text: int(number) for text, number in (LINE.fullmatch(it).groups() for it in lines)}
 
 
 def counted(steps, program, text):
-    """Returns how many instructions one parse of the text takes."""
+    """Returns the number of instructions of one parse of `text`."""
     numbers = []
     for count in (FEW, MANY):
         file = steps.parent / "number"
@@ -37,7 +37,7 @@ def counted(steps, program, text):
 
 
 def faults_of(folder, program):
-    """The texts for which this program, of parses.c, takes too many instructions."""
+    """Yields the texts for which `program`, which is parses.c, takes too many instructions."""
     steps = pathlib.Path(folder) / "steps"
     subprocess.run(["cc", "-O1", "-o", steps, TOP / ".ci/steps.c"], check=True)
     numbers = {text: counted(steps, program, text) for text in table()}

@@ -1,7 +1,7 @@
-"""The crates of crates.txt, and the words of a call of the checker over their libraries.
+"""Reads the crates of crates.txt, and makes the command of a check over their libraries.
 
-The libraries are those that `rt ci` or `rt check` left in crates/*/out/rlib; they are taken as they
-are, and only the crate that is named is proved.
+The libraries are those that `rt ci` or `rt check` left in crates/*/out/rlib. They are used as they
+are, and only the named crate is proved.
 """
 import dataclasses
 import pathlib
@@ -14,20 +14,20 @@ KIT = pathlib.Path(subprocess.check_output(["rt", "doc"], text=True).strip()).pa
 
 @dataclasses.dataclass
 class Crate:
-    """A crate by its line of crates.txt."""
+    """A crate, from its line of crates.txt."""
 
     name: str
     words: list
     deps: list
 
     def below(self, crates):
-        """The crates of the repository that this one depends on."""
+        """Returns the crates of the repository that this one depends on."""
         found = {it for it in self.deps if it in crates}
         return sorted(found.union(*(crates[it].below(crates) for it in found)))
 
 
 def crates_of(top):
-    """The crates that the file crates.txt of this folder lists, by their names."""
+    """Returns the crates that the file crates.txt in `top` lists, by their names."""
     crates = {}
     for line in (top / "crates.txt").read_text().splitlines():
         if ":" in line.split("#")[0]:
@@ -42,14 +42,15 @@ def library_folder(name):
 
 
 def stop_unless_built(names):
-    """Stops where the library of one of these crates was not built."""
+    """Stops if the library of one of these crates was not built."""
     for name in names:
         if not (library_folder(name) / f"{name}.rlib").exists():
             sys.exit(f"{name} is not built: run rt ci first")
 
 
 def words_of(verb, crate, crates, root):
-    """The words of a check or a build of the crate, run in its folder, by its root file."""
+    """Returns the command that checks or builds the crate with the root file `root`. It runs in the
+    folder of the crate."""
     words = [f"{KIT}/bin/rattle", verb, "--crate-name", crate.name, root]
     for dep in ["std", *crate.deps]:
         top = f"{KIT}/rlibs" if dep not in crates else library_folder(dep)
