@@ -36,7 +36,7 @@ import tempfile
 TOP = pathlib.Path(__file__).resolve().parent.parent
 PROGRAM = TOP / "crates/litrs_explain/out/litrs_explain"
 BITS = {"8": 8, "16": 16, "32": 32, "64": 64, "128": 128, "size": 64}
-# The text of an integer, its value and its suffix.
+# The text of an integer, its digits and its suffix.
 INTEGERS = [
     ("0", "0", ""),
     ("127", "127", ""),
@@ -278,7 +278,7 @@ class Tests:
         self.hold(places == [2, 1, given.index("\\q"), given.index("\\q") + 2], f"{it}")
 
     def try_held(self):
-        """Tests that the text that is held is dropped before the line after it is read."""
+        """Tests that held text is dropped with its last line, before the next line is read."""
         words = [self.program, "--prefix", "--format", "json"]
         for given in (b'"a\nb"\n1', b'"a\\q\nb" 1\n', b"/*\n*/ 1\n", b"r#\"\n\"# 1\n"):
             child, terminal = pty.fork()

@@ -3,7 +3,7 @@
 
     .ci/lines.py            prints the table
     .ci/lines.py --write    writes it into docs/GATE.md
-    .ci/lines.py --check    fails where the page has another one
+    .ci/lines.py --check    fails if the page has another one
 
 Lines that are blank or only a comment do not count. The crates are those of crates.txt.
 """
@@ -14,7 +14,7 @@ import sys
 TOP = pathlib.Path(__file__).resolve().parent.parent
 PAGE = TOP / "docs/GATE.md"
 HEAD = "| Crate | Code with contracts | Definitions | Proofs | Examples | Wrong bodies |"
-# The table on the page: its head and the lines below it that begin so too.
+# The table on the page: its head and the lines of the table below it.
 TABLE = re.compile(rf"^{re.escape(HEAD)}\n(?:\|.*\n)+", re.M)
 
 
@@ -27,7 +27,7 @@ def lines_of(paths):
 
 
 def counts_of(crate):
-    """The numbers of a crate, in the order of the table."""
+    """Returns the numbers of a crate, in the order of the table."""
     proofs = set(crate.glob("proofs/**/*.antt"))
     examples = {it for it in proofs if "Examples" in it.as_posix()}
     edits = [*crate.glob("wrong/*.edit"), *crate.glob("must-fail/*.edit")]
@@ -41,13 +41,13 @@ def counts_of(crate):
 
 
 def crates():
-    """The names of crates.txt."""
+    """Returns the names of the crates in crates.txt."""
     text = (TOP / "crates.txt").read_text()
     return re.findall(r"^(\w+)[^:#\n]*:", text, re.M)
 
 
 def table():
-    """The table, with the sums below it."""
+    """Returns the table, with the sums in its last line."""
     rows = {f"`{it}`": counts_of(TOP / "crates" / it) for it in crates()}
     rows["all"] = [sum(column) for column in zip(*rows.values())]
     lines = [HEAD, "|---" * 6 + "|"]

@@ -1,28 +1,32 @@
 #!/usr/bin/env python3
-"""Fails where code makes an allocation failure or a formatting failure of its own, or asks for
-memory by a number that is not known to be a length of what it will hold.
+"""Fails if code makes an allocation failure or a formatting failure of its own, or asks for memory
+by a number that is not known to be a length of the contents.
 
-Outside tests an `AllocError` comes from the library alone, and so does a `fmt::Error`. A failure is
-an `AllocError`, an `OutOfMemory`, or the variant that some `fn from(_: AllocError)` makes, as
-`Memory`. It may occur in types, imports, clauses, declarations and patterns, beside `==` and `!=`,
-in the body of such a `from`, and in two more places:
+Tests are exempt. Elsewhere every `AllocError` and every `fmt::Error` must come from the library. A
+failure is an `AllocError`, an `OutOfMemory`, or a variant that some `fn from(_: AllocError)` makes,
+such as `Memory`. It may occur in types, imports, clauses, declarations and patterns, beside `==`
+and `!=`, in the body of such a `from`, and in two more places:
 
-- in the answer of a one-line arm whose pattern is one failure, as
+- in the value of a one-line arm whose pattern is one failure, such as
   `ParseErrorKind::OutOfMemory => Err(AllocError),`;
 - in a one-line arm of `Err(_)` or `None` below a comment that begins `// allocation failed: ` and
-  says what was refused there.
+  names the allocation that failed.
 
-Outside tests memory is asked for by a number, or by as many items as an iterator gives, only in a
-function that hands its own parameter on to the call of its name, and on a line below a comment that
-begins `// bounded by ` and says of which length the number is: a contract says what is held in the
-end, and not how much was asked for. The number is then a sum of names, lengths, digits and
-`usize::from` of a name, or of one of them times a digit; such a line chooses between no two
-numbers, and has no greater one but the greatest of a type to which a value is converted. So that no
-other call asks for more, no argument of a call that allocates has a number above `LARGE`, a
-constant that is a number, or a repeated array, and no line has a number that is as good as
-unbounded, but below such a comment.
+A contract bounds the memory that is held in the end, but not the memory that is asked for. So
+memory may be asked for by a number, or for the items of an iterator, only in two places:
 
-Each comment is for the next line alone, and is refused above a line that does not need it.
+- in a function that passes its own parameter on to the call of its name;
+- on a line below a comment that begins `// bounded by ` and names the length that the number is.
+
+Such a number must be a sum. Each term is a name, a length, a digit or `usize::from` of a name, or
+one of these times a digit. Such a line must not choose between two numbers. It must not have a
+greater number, except the greatest of a type to which a value is converted.
+
+On all other lines an argument of a call that allocates must not have a number above `LARGE`, a
+constant that is a number, or a repeated array. No other line may have a number that is as good as
+unbounded.
+
+Each comment is for the next line only. A comment above a line that does not need it is a fault.
 """
 import collections
 import pathlib
@@ -37,39 +41,40 @@ RESERVES = (
     r"|\bvec!\[in [^\]]*;"
 )
 
-# A number from which on an argument of a call that allocates is looked at.
+# The greatest number that an argument of a call that allocates may have without a comment.
 LARGE = 255
-# The calls that allocate without being given an allocator.
+# The calls that allocate but do not have an allocator as an argument.
 GROWS = (
     r"\b(push|push_\w+|extend_from_slice|insert\w*|append|feed|write_all|writeln!|write!|format!)$"
 )
-# An argument with one of these may be a number that is greater than what it will hold.
+# The constructions by which an argument may be a number that is greater than the contents.
 NUMBER = (
     r"(?<!Type::)\b[A-Z][A-Z0-9_]+\b|::MAX\b|\b0x[0-9a-fA-F_]+\b|(?<![\w.])\d[\d_]*|;\s*[a-z]\w*\s*\]|<<|\.pow\("
 )
-# Numbers that are as good as unbounded, and such a width in a format.
+# Numbers that are as good as unbounded, and such widths in a format.
 UNBOUNDED = r"::MAX\b|(?<!\w)\d[\d_]{4,}|\d\s*<<|\.pow\("
 WIDTH = r"\{[^{}]*:[^{}]*(\d{3,}|\$)[^{}]*\}"
-# An amount of memory below a comment that says what bounds it.
+# An amount of memory below a comment that names its bound.
 TERM = r"(?:usize::from\([a-z][\w.]*\)|[A-Za-z_][\w.]*(?:\(\))?|\d)"
 PART = rf"(?:\d \* )?{TERM}"
 AMOUNT = rf"\s*{PART}(?: \+ {PART})*\s*"
-# A line below such a comment may not have these, but for a conversion to a narrower type.
+# The constructions that a line below such a comment must not have. A conversion to a narrower type
+# is exempt.
 UNMEASURED = r"\b(if|match|while)\b|::MAX\b|(?<!\w)\d[\d_]+|\b0x|<<|\.pow\("
 NARROWED = r"\b\w+::try_from\(\w+\)\.unwrap_or\(\w+::MAX\)"
-# Lines on which such a number is not an amount of memory: the turns of a loop, a comparison,
-# and what a function of numbers answers: the bounds of integer types, a power of two.
+# Lines on which such a number is not an amount of memory: the turns of a loop, a comparison, the
+# bounds of integer types, and a power of two.
 NO_AMOUNT = (
     r"\s*(for \w+ in 0\.\.u64::MAX|if \w+ [<>]=? 1 << \d+) \{$"
     r"|\s*[\w.]+ [<>]=? 1 << \d+$|\s*1 << [a-z]\w*$"
     r"|\s*IntegerType::\w+ => (\w+::MAX|\(?1 << \d+\)?( - 1)?),$"
 )
 
-# The head of a function that makes the failure of an error from one that it is given.
+# The head of a function that converts an allocation failure of the library to another error.
 FROM = r"\s*fn from\(\w+: Alloc(?:Error|Failed<\w+>)\) -> \w+(?: \{)?$"
-# Items that are skipped as a whole, up to the closing brace under their first column.
+# The heads of items that are skipped, up to the closing brace under their first column.
 SKIPPED = rf"{FROM}|\s*(pub(\(\w+\))? )?(enum|struct) \w+[^;]*\{{$"
-# Places in which the names may occur: types, imports, clauses and patterns.
+# The places in which a failure may occur: types, imports, clauses and patterns.
 ALLOWED = [
     r"//.*",
     r"^\s*(pub )?use (?![^;]*\b(AllocError|OutOfMemory|Memory|Error) as\b)[^;]*;",
@@ -81,7 +86,7 @@ ALLOWED = [
     r"(\bErr\(|\bSome\()?[\w:]*\bOutOfMemory\)?( =>| \|)",
     r"(^\s*|(?<=[\w)] ))\| [\w:]*\bOutOfMemory\b",
 ]
-# An arm of one failure, and one below a comment; neither has another pattern beside it.
+# An arm of one failure, and an arm below a comment. Neither has a second pattern.
 FAILURE_ARM = (
     r"^\s*[^|!]*FAILURE[^|!]* => ((return )?Err\([^=]*FAILURE[^=]*\)|(\w+::)?FAILURE),$"
 )
@@ -89,13 +94,13 @@ MAPPING_ARM = r"^\s*(Err\(_\)|None) => Err\(.*FAILURE.*\),$"
 
 
 def sources():
-    """The source files outside tests."""
+    """Returns the texts of the source files outside tests, by their paths."""
     paths = sorted(pathlib.Path("crates").glob("*/src/**/*.rt"))
     return {it: it.read_text() for it in paths if not is_test_file(it)}
 
 
 def is_test_file(path):
-    """Returns whether the file is a module declared under `#[cfg(test)]`, or below such a one."""
+    """Returns whether the file is a module declared under `#[cfg(test)]`, or is below one."""
     declared = f"#[cfg(test)]\nmod {path.stem};"
     above = path.parent.with_suffix(".rt")
     return any(declared in parent.read_text() for parent in path.parent.glob("*.rt")) or (
@@ -104,7 +109,7 @@ def is_test_file(path):
 
 
 def failures_of(texts):
-    """The failures, as a pattern: those of the library, and each that a `from` makes of one."""
+    """Returns a pattern of the failures: those of the library, and those that a `from` makes."""
     names = {r"\bAllocError\b", r"\bOutOfMemory\b", r"\bAllocFailed\b"}
     for text in texts:
         lines = text.split("\n")
@@ -117,7 +122,8 @@ def failures_of(texts):
 
 
 def held_constants(texts):
-    """The names of the constants that are texts, slices or arrays, and of no number: a pattern."""
+    """Returns a pattern of the names of the constants that are texts, slices or arrays. A name that
+    is also that of a number is left out."""
     types = collections.defaultdict(set)
     for text in texts:
         for name, kind in re.findall(r"\b(?:const|static) ([A-Z]\w*): (&|\[|\w)", text):
@@ -127,7 +133,7 @@ def held_constants(texts):
 
 
 def code_lines(text):
-    """The lines of a file with their numbers, without its tests and the skipped items."""
+    """Yields the lines of a file with their numbers, without its tests and the skipped items."""
     lines = text.split("\n")
     end = None
     for number, line in enumerate(lines, 1):
@@ -141,7 +147,7 @@ def code_lines(text):
 
 
 def arguments_of(text, start):
-    """The arguments of a call whose parenthesis opens here, without strings and characters."""
+    """Returns the arguments of the call whose parenthesis opens at `start`."""
     depth, begun, parts = 0, start + 1, []
     for place in range(start, len(text)):
         if text[place] in "([{":
@@ -157,14 +163,14 @@ def arguments_of(text, start):
 
 
 def without_texts(line):
-    """A line without its comment, and with empty strings and characters."""
+    """Returns a line without its comment, with an empty string for each string and character."""
     line = re.sub(r'b?"(\\.|[^"\\])*"|b?\'(\\.[^\']*|[^\'\\])\'', '""', line)
     return re.sub(r"//.*", "", line)
 
 
 def is_large(argument):
-    """Returns whether an argument has a constant, a repeated array, or a number above `LARGE`,
-    except in the places of a slice."""
+    """Returns whether an argument has a constant, a repeated array, or a number above `LARGE`. The
+    bounds of a slice do not count."""
     argument = re.sub(r"(?<=\w)\[[^\]]*\]", "", argument)
     for found in re.finditer(NUMBER, argument):
         digits = found[0].replace("_", "")
@@ -174,8 +180,8 @@ def is_large(argument):
 
 
 def large_arguments(lines, held):
-    """The numbers of the lines on which a call that allocates has such an argument; a constant that
-    is `held` does not count."""
+    """Yields the numbers of the lines on which a call that allocates has a large argument. A
+    constant whose name is in `held` does not count."""
     code = [re.sub(held, "", without_texts(line)) for _, line in lines]
     text, places = "\n".join(code), []
     for (number, _), line in zip(lines, code):
@@ -190,7 +196,7 @@ def large_arguments(lines, held):
 
 
 def is_measured(line):
-    """Returns whether a line below a comment `// bounded by ` asks for what was measured."""
+    """Returns whether a line below a comment `// bounded by ` asks for memory by allowed sums."""
     code = re.sub(NARROWED, "", without_texts(line))
     code = re.sub(r"^\s*match (?=[^{}]*\{$)", "", code)
     for call in re.finditer(RESERVES, code):
@@ -203,7 +209,7 @@ def is_measured(line):
 
 
 def hands_on(head, line):
-    """Returns whether a line of this function calls what has its name, with a parameter."""
+    """Returns whether a line of this function passes a parameter on to a function of its name."""
     named = re.match(r"\s*(?:pub )?fn (\w+)\(([^)]*)\)", head)
     if not named:
         return False
@@ -212,7 +218,7 @@ def hands_on(head, line):
 
 
 class File:
-    """A source file, and what is wrong with it."""
+    """A source file and its faults."""
 
     def __init__(self, path, text, failures, held):
         self.path, self.all, self.failures = path, text.split("\n"), failures
@@ -221,7 +227,8 @@ class File:
         self.used, self.faults = set(), []
 
     def is_marked(self, number, mark):
-        """Returns whether the comment above this line begins with this mark, which then is used."""
+        """Returns whether the comment above this line begins with `mark`, and notes the comment as
+        used."""
         above = number - 1
         while above and self.all[above - 1].strip().startswith("//"):
             if self.all[above - 1].strip().startswith(mark):
@@ -235,7 +242,7 @@ class File:
         self.faults.append(f"{self.path}:{number}: {fault}: {self.all[number - 1].strip()}")
 
     def look_at_memory(self, number, line, head):
-        """Looks for a call on this line that asks for memory by a number."""
+        """Adds a fault if a call on this line asks for memory by a number that is not allowed."""
         code = without_texts(line)
         if calls := re.findall(RESERVES, re.sub(r"//.*", "", line)):
             if len(calls) == 1 and hands_on(head, line):
@@ -255,7 +262,7 @@ class File:
                 self.say(number, "a number that may be too great")
 
     def look_at_failures(self, number, line):
-        """Looks for a failure that is made on this line."""
+        """Adds a fault if this line makes a failure of its own."""
         made = rf"{self.failures}|\bfmt::(\{{[^}}]*\b)?Error\b"
         if not re.search(made, line):
             return
@@ -272,7 +279,7 @@ class File:
             self.say(number, "makes a failure of its own")
 
     def look(self):
-        """Looks at each line, and then for comments that serve none."""
+        """Checks each line, and then that no comment is superfluous. Returns the faults."""
         head = ""
         for number, line in self.lines:
             head = line if re.match(r"\s*(pub(\(\w+\))? )?(const )?fn ", line) else head
@@ -284,7 +291,7 @@ class File:
         return self.faults
 
 
-# Lines below a comment that begins `// bounded by `: which of them ask for what was measured.
+# Lines below a comment that begins `// bounded by `, each with the result of `is_measured`.
 TRIED = {
     "C::with_capacity(alloc, len + usize::from(zero))?;": True,
     "match C::with_capacity(alloc, len + usize::from(zero)) {": True,

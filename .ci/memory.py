@@ -1,13 +1,13 @@
 #!/usr/bin/env python3
-"""Counts how much memory the program of lines holds at most over one literal of many lines.
+"""Measures the memory that litrs_lines_cli holds at most over one literal of many lines.
 
     .ci/memory.py
 
 Runs both builds of crates/litrs_lines_cli, which `rt ci` leaves in its out/, on strings of many
-lines: continuations, lines with escapes, plain ones and raw ones, of several lengths, among them
-such as a buffer that doubles is emptiest at. By .ci/peak.c each run says how many bytes the blocks
-had that it held together. Fails where these are more than twice the input and `ROOM`, or where the
-report is another.
+lines: continuations, lines with escapes, plain ones and raw ones. The lengths include those at
+which a buffer that doubles has the most free room. .ci/peak.c measures the bytes of the blocks that
+a run holds together. Fails if they are more than twice the input and `ROOM`, or if the report is
+wrong.
 """
 import os
 import pathlib
@@ -17,12 +17,12 @@ import tempfile
 
 TOP = pathlib.Path(__file__).resolve().parent.parent
 PROGRAM = TOP / "crates/litrs_lines_cli/out/litrs_lines_cli"
-# A run may also hold a piece of the reports, and what the C library adds to a block.
+# The memory for a piece of the reports, and for the bytes that the C library adds to a block.
 ROOM = 1 << 16
 LINES = [1_000, 40_000, 81_000, 82_000, 83_000, 100_000]
 # The bytes of a line without its LF.
 LENGTH = 50
-# A name, what a line ends with, its value with its LF, and the texts around the lines.
+# A name, the end of a line, its value with that of its LF, and the texts around the lines.
 SHAPES = [
     ("continuations", b"\\", b"", b'"', b'"'),
     ("escapes", b"\\n\\t", b"\n\t\n", b'"', b'"'),
@@ -33,7 +33,8 @@ SHAPES = [
 
 
 def held(program, library, folder, text):
-    """Returns what the program prints of the text, and how many bytes it holds at most."""
+    """Returns the output of the program for the text, and the number of bytes that it holds at
+    most."""
     peak = folder / "peak"
     environment = os.environ | {"LD_PRELOAD": str(library), "PEAK": str(peak)}
     ran = subprocess.run([program], input=text, capture_output=True, env=environment, check=True)

@@ -1,9 +1,9 @@
-"""Tries the Python module of the C library beside the rows of the table: its names and hints, its
-errors, arguments of other types, the values of floats, what it writes, and how often a walk over
-tokens calls the library.
+"""Tests the Python module of the C library apart from the rows of the table.
 
-.ci/c_library.py runs this over the module that is installed. The functions yield a fault, or None
-for a test that passes.
+The tests are of its names and type hints, its errors, arguments of other types, the values of
+floats, the literals that it writes, and the calls of the library in a walk over tokens.
+.ci/c_library.py runs them over the installed module. The functions yield a fault, or `None` for a
+test that passes.
 """
 import array
 import copy
@@ -20,13 +20,13 @@ NAMES += ["write_bytes", "write_integer", "write_string"]
 # The fields of an error, in the order of its constructor.
 FIELDS = ["kind", "span", "message", "is_final", "is_open", "length"]
 LARGE = 2 * 10**9
-# None of these is a str or bytes; a memoryview is of bytes in one dimension.
+# Values that are not a text: a text is a str, bytes, or a memoryview of bytes in one dimension.
 NO_TEXTS = [0, 5, LARGE, -1, True, 1.5, None, [49], (49,), {49}, {}, range(3), object(), bytes]
 NO_TEXTS += [array.array("B", b"1"), memoryview(array.array("H", [49]))]
 NO_TEXTS += [memoryview(array.array("f", [1])), memoryview(b"1234").cast("B", [2, 2])]
 NO_TEXTS += [memoryview(b"1").cast("?"), memoryview((ctypes.c_ushort * 1)(49))]
 BYTES = [b"a", bytearray(b"a"), memoryview(b"a")]
-# A str with a surrogate has no UTF-8.
+# Texts that cannot be encoded as UTF-8, since they have a surrogate.
 SURROGATES = ["\ud800", '"\udfff"', "1 \udc80"]
 NO_SUFFIXES = ["1", "_", " ", "a b", "a-", '"', "\0", "a\0", "#", "\u200d"]
 SUFFIXES = ["", "u8", "a_b", "é", "x"]
@@ -35,7 +35,7 @@ INTEGERS = [0, 1, 255, 2**63, 2**64 - 1, 2**64, 2**64 + 1, 2**127, 2**128 - 1]
 
 
 def raised(error, call, *words):
-    """Returns the fault of a call that has to raise this error, and not one of a class below it."""
+    """Returns the fault of a call that must raise `error` itself, and not a subclass of it."""
     shown = [hex(it) if type(it) is int else repr(it) for it in words]
     how = f"{call.__name__} of {', '.join(shown):.60}"
     try:
@@ -46,7 +46,7 @@ def raised(error, call, *words):
 
 
 def faults_of_types(module):
-    """Yields the arguments of other types that do not raise TypeError, without being read."""
+    """Yields a fault for each argument of another type that does not raise TypeError."""
     calls = [getattr(module, it) for it in READERS]
     yield from (raised(TypeError, call, it) for call in calls for it in NO_TEXTS)
     write = {"a": module.write_string, b"a": module.write_bytes, 1: module.write_integer}
@@ -58,7 +58,7 @@ def faults_of_types(module):
 
 
 def faults_of_errors(module):
-    """Yields the arguments that do not raise the error that the page of the crate names."""
+    """Yields a fault for each argument that does not raise the error on the crate's page."""
     writers = [(module.write_string, "a"), (module.write_bytes, b"a"), (module.write_integer, 1)]
     for text in SURROGATES:
         yield from (raised(UnicodeEncodeError, getattr(module, it), text) for it in READERS)
@@ -77,7 +77,8 @@ def faults_of_errors(module):
 
 
 def faults_of_texts(module):
-    """Yields the texts that are read otherwise as another type, or as an empty or a broken one."""
+    """Yields a fault for each text whose result depends on its type, and the faults for empty
+    texts, many digits and NUL."""
     for text in (b"0xFF_u8", b'"a\\n"', b"0b12", b"", b"\0", b'"a\0"', b'c"\0"', b"name"):
         spread = bytes(it for byte in text for it in (byte, 0))
         view, own = memoryview(text), type("Own", (bytes,), {"__bytes__": None})
@@ -105,7 +106,8 @@ FLOATS.update({"1e400": math.inf, "1__e400_": math.inf, "1e-400": 0.0, "5e-324":
 
 
 def faults_of_floats(module):
-    """Yields the floats whose value is not the nearest float, also at the front of a text."""
+    """Yields a fault for each float literal whose value is not the nearest float, also at the front
+    of a text."""
     for text, wanted in FLOATS.items():
         for it in (text, text.encode(), memoryview(text.encode())):
             found = module.parse(it).value, module.parse_prefix(text + " ")[0].value
@@ -120,7 +122,7 @@ SOURCE = "let é = b\"\\n\" + 0x1F_u8; // 🦊\n"
 
 
 class Counted(bytes):
-    """Bytes that count how many of them are cut out and how many are decoded."""
+    """Bytes that count how many of them are sliced and how many are decoded."""
 
     read = 0
 
@@ -135,7 +137,7 @@ class Counted(bytes):
 
 
 def walked(module, text):
-    """Returns the tokens of a text, and what the walk calls."""
+    """Returns the tokens of a text, and the calls that the walk makes."""
     calls, data, seen = module._calls, module._data, []
 
     def counted(name):
@@ -150,8 +152,8 @@ def walked(module, text):
 
 
 def faults_of_walks(module):
-    """Yields the walks over a source that encode or check it more than once, or read a byte of it
-    more than once, and tokens that change with the source or with another walk."""
+    """Yields a fault for each walk over a source that encodes it, checks it or reads a byte of it
+    more than once, and for tokens that change with the source or with another walk."""
     for count in (1, 50, 400):
         for text in (SOURCE * count, (SOURCE * count).encode()):
             Counted.read = 0
@@ -159,7 +161,7 @@ def faults_of_walks(module):
             size = len(text.encode() if isinstance(text, str) else text)
             wanted = ["encode", ("check", size)] + [("next_token",)] * (len(found) + 1)
             yield None if seen == wanted else f"a walk calls {seen[:9]}, {len(seen)} in all"
-            # The bytes are cut out, and those of a str are decoded.
+            # The bytes are sliced, and those of a str are decoded too.
             times = 2 if isinstance(text, str) else 1
             yield None if Counted.read == times * size else f"a walk reads {Counted.read} bytes"
             same = type(text)().join(it.text for it in found)
@@ -183,7 +185,8 @@ def faults_of_walks(module):
 
 
 def answer(call, text):
-    """Returns the answer of a call, of a walk without its texts, or what its error has."""
+    """Returns the result of a call. For a walk that is the tokens without their texts, and for an
+    error its class, arguments and attributes."""
     try:
         found = call(text)
         if type(found) is not types.GeneratorType:
@@ -194,7 +197,8 @@ def answer(call, text):
 
 
 def faults_of_writers(module):
-    """Yields the values whose literal is not parsed as the value with the suffix."""
+    """Yields a fault for each value whose written literal is not parsed as the value with the
+    suffix."""
     values = [(module.write_string, "String", it) for it in STRINGS]
     values += [(module.write_string, "String", "".join(map(chr, range(0x2100))))]
     numbers = [bytes([it]) for it in range(256)]
@@ -213,20 +217,20 @@ def faults_of_writers(module):
 
 
 def own_kind(module):
-    """Returns a class below ParseError whose constructor takes more."""
+    """Returns a subclass of ParseError whose constructor has other parameters."""
 
     def __init__(self, file, error):
         module.ParseError.__init__(self, *[getattr(error, it) for it in FIELDS])
         self.file = file
 
     kind = type("OwnError", (module.ParseError,), {"__init__": __init__, "__module__": __name__})
-    # By this name pickle finds it.
+    # pickle finds the class by this name.
     globals()["OwnError"] = kind
     return kind
 
 
 def faults_of_copies(module):
-    """Yields the errors and literals that copying or pickling changes."""
+    """Yields a fault for each error and literal that copying or pickling changes."""
     errors, own = [], own_kind(module)
     for text in ("0b12", '"abc', "name", "", b"0xG"):
         try:
@@ -251,7 +255,8 @@ def faults_of_copies(module):
 
 
 def faults_of_names(module):
-    """Yields what is public and not listed, and what has no hint of a type."""
+    """Yields a fault for each public name that is not listed, or that lacks type hints or a
+    docstring."""
     own = [it for it, value in vars(module).items() if getattr(value, "__module__", "") == "litrs"]
     if sorted(it for it in own if not it.startswith("_")) != NAMES or module.__all__ != NAMES:
         yield f"public are {own}, listed {module.__all__}, wanted {NAMES}"
@@ -268,7 +273,7 @@ def faults_of_names(module):
 
 
 def try_module(module):
-    """Returns how many tests there are, and the faults."""
+    """Returns the number of tests, and the faults."""
     groups = [faults_of_names, faults_of_types, faults_of_errors, faults_of_texts]
     groups += [faults_of_floats, faults_of_writers, faults_of_copies, faults_of_walks]
     found = [it for group in groups for it in group(module)]

@@ -1,38 +1,40 @@
 #!/usr/bin/env python3
-"""Refuses each allocation of the program of rows in turn.
+"""Makes each allocation of litrs_vectors fail in turn.
 
 .ci/refused.py [--seed SEED] [ROWS]
 
-Runs both builds of crates/litrs_vectors, which `rt ci` leaves in its out/, on each row of its table
-and of texts that are generated here, or on the rows of the file ROWS alone, a row a process. Some of
-the lengths in generated texts are drawn anew in each run; SEED, which is printed, draws the same
-again. By .ci/refuse.c a process is copied at each of its allocations: into one in which that one is
-refused, and one in which all from there on are.
+Runs both builds of crates/litrs_vectors, which `rt ci` leaves in its out/, with one row in each
+process. The rows are those of its table and those that this script generates, or only those of the
+file ROWS. Some lengths in generated texts are drawn anew in each run. SEED, which is printed, draws
+the same lengths again. .ci/refuse.c copies a process twice at each of its allocations. In one copy
+this allocation fails, and in the other this one and all later ones fail.
 
-Where one is refused, either a call of the library answered it, and the program prints which one,
-tries the row again, and the row holds; or it was one of the program's own, and it prints nothing but
-`out of memory` and ends with the status 1. Where all from there on are refused, it ends so, if need
-be after the line on the call. Where a block was to be made smaller, and stays as it is, it may also
-go on as if nothing were refused.
+If one allocation fails, there are two correct results. If a call of the library returned the
+failure, the program prints its name and tries the row again, and the row holds. If the allocation
+was one of the program's own, it prints only `out of memory` and ends with status 1. If all later
+allocations fail too, it ends in this way, perhaps after the line on the call. If the allocation was
+to make a block smaller, the program may also continue as if nothing failed.
 
-At the end of each row the program asks for `MARK` bytes, and then makes the calls that need no
-memory. Where that block is refused, or all from it on, the row holds as if nothing were.
+At the end of each row the program asks for `MARK` bytes, and then makes the calls that do not
+allocate. If that allocation or all from it on fail, the row must hold.
 
-Among the rows are strings of each kind whose values have every length up to 300. What a call asks
-for to hold such a value, over both buffers, has to be as many bytes as the value has, with its
-closing zero where it is a C string. Of these rows no copy is made in which all allocations from one
-on are refused.
+Some rows are strings of each kind whose values have every length up to 300. A call over either
+buffer must ask for exactly the bytes of such a value, with the closing zero of a C string. For these
+rows there are no copies in which all later allocations fail.
 
-Last, each build runs with nothing refused on texts with parts of every length below 512 and of some
-that are drawn, and on values that end in every number of escapes up to 130, and every row has to
-hold.
+Last, each build runs without a failure on more rows, all of which must hold. These have texts with
+parts of every length below 512 and of some drawn lengths, and values that end in every number of
+escapes up to 130.
 
-Fails where a copy does anything else, where a call that is not listed below was refused, where one
-that is listed never was, where `feed` allocates more than once if a line is not a literal, or at
-all for a line that fits the memory of a collector that was cleared, where a call of litrs_build
-allocates more than once for a text and once for a value, where one of litrs_value does for a
-parse and for a value, where `parse_until` does for a value, and where `feed_prefix` does for a line,
-for the literal and for its value.
+Fails if a copy does anything else, if an allocation of a call that is not listed below fails, or if
+none of a listed call fails. It also fails if a call allocates more often than this:
+
+- `feed`: once if a line is not a literal, and not at all for a line that fits the memory of a
+  collector that was cleared;
+- a call of litrs_build: once for the text and once for the value;
+- a call of litrs_value: once for the parse and once for the value;
+- `parse_until`: once for the value;
+- `feed_prefix`: once for the line, once for the literal and once for its value.
 """
 import argparse
 import collections
@@ -50,7 +52,7 @@ CRATE = TOP / "crates" / "litrs_vectors"
 STRINGS = ["StringLit", "ByteStringLit", "CStringLit"]
 OTHERS = ["IntegerLit", "FloatLit", "CharLit", "ByteLit"]
 HOLDS = b"1 rows hold\n"
-# As in crates/litrs_vectors/src/lines.rt.
+# The size of the block at the end of a row, as in crates/litrs_vectors/src/lines.rt.
 MARK = 9973
 FEED = "Collector::feed over &str"
 FEED_PREFIX = "Collector::feed_prefix over &str"
@@ -63,15 +65,15 @@ ENDED = b"litrs_vectors: out of memory\n"
 REFUSED = re.compile("refused (.*) at line 1")
 # The most copies of a part in a text.
 LONGEST = 10_000
-# Numbers of lengths of parts that are drawn: below 5,000 with each allocation refused, and below
-# `LONGEST` with nothing refused.
+# The numbers of drawn lengths of parts: below 5,000 if each allocation fails in turn, and below
+# `LONGEST` if none fails.
 DRAWN = 8
 DRAWN_UNREFUSED = 64
-# Below this number parts of every length are tried, with nothing refused.
+# The length below which parts of every length are tried without a failure.
 SHORT = 512
-# Values of every length up to this one are tried for how many bytes are asked for.
+# The greatest length of the values for which the bytes that are asked for are compared.
 SIZED = 300
-# The calls that ask for memory for a value alone.
+# The calls that allocate only for a value.
 VALUES = {
     "Literal::parse over &str",
     "Literal::parse over String",
@@ -80,13 +82,13 @@ VALUES = {
     "Literal::from_tree over String",
     "CString::clone over CString",
 }
-# With this suffix a text is so long that the program makes few other calls on it.
+# A suffix so long that the program makes few other calls on the text.
 SUFFIX = "u" + 1000 * "8"
 SECONDS = 600
 
 
 def calls():
-    """The calls that may be refused, as the program names them."""
+    """Yields the calls whose allocations may fail, by the names that the program prints."""
     kinds = ["Literal", *STRINGS]
     for kind in kinds:
         for buffer in ["&str", "String"]:
@@ -142,13 +144,13 @@ def calls():
 
 
 def escaped(data):
-    """Bytes as a field of the table."""
+    """Returns bytes as a field of the table."""
     plain = set(range(32, 127)) - {ord("%")}
     return "".join(chr(byte) if byte in plain else f"%{byte:02X}" for byte in data)
 
 
 def some_lengths(draw):
-    """Lengths around each constant of the code, and others."""
+    """Returns lengths around each constant of the code, and others."""
     lengths = {0, 1, 5, 333, 1000, 5000}
     for constant in [8, 16, 32, 64, 80, 128, 1024, 4096, 8192, 16384]:
         lengths |= {constant - 1, constant, constant + 1}
@@ -156,7 +158,7 @@ def some_lengths(draw):
 
 
 def generated(lengths, draw):
-    """Rows of each kind, whose parts have these lengths."""
+    """Yields rows of each kind whose parts have these lengths."""
     for length in lengths:
         plain = bytes(draw.choice(b"abcxyz019 _#'") for _ in range(length))
         digits = "".join(draw.choice("0123456789") for _ in range(length)) or "0"
@@ -195,8 +197,8 @@ def generated(lengths, draw):
 
 
 def ended():
-    """Rows of strings of more bytes than are put together on the stack, whose values end in every
-    number of escapes up to the greatest that is copied at a time, and two more."""
+    """Yields rows of strings that are too long to be built on the stack. Their values end in every
+    number of escapes up to 130, which is two more than are copied at a time."""
     for count in range(131):
         plain, escapes, value = 16500 * "a", count * "\\n", count * "%0A"
         how = "escaped" if count else "plain"
@@ -204,8 +206,8 @@ def ended():
 
 
 def sized(draw):
-    """Rows of strings of each kind, with an escape, and of C strings without one, whose values have
-    every length up to `SIZED`; and how many bytes each value takes."""
+    """Yields rows of strings of each kind, with an escape, and of C strings without one, each with
+    the size of its value in bytes. The values have every length up to `SIZED`."""
     for length in range(SIZED + 1):
         plain = "".join(draw.choice("abcxyz019 _#'") for _ in range(length))
         at = draw.randrange(length) if length else 0
@@ -219,13 +221,13 @@ def sized(draw):
 
 
 def refused_call(printed):
-    """The call of the library that a copy says was refused, or None."""
+    """Returns the call of the library whose allocation failed in a copy, as it prints, or `None`."""
     match = REFUSED.fullmatch(printed.partition(b"\n")[0].decode())
     return match and match[1]
 
 
 class Build:
-    """The calls and faults that were seen of one build."""
+    """The calls and faults of one build."""
 
     def __init__(self, name, library, folder):
         self.program = CRATE / "out" / name
@@ -236,8 +238,8 @@ class Build:
         self.faults = []
 
     def try_row(self, task):
-        """Refuses each allocation of a row in turn. If the number of bytes of the value is
-        known, exactly that number has to be asked for."""
+        """Makes each allocation of a row fail in turn. If the size of the value is known, exactly
+        this number of bytes must be asked for."""
         number, (row, room) = task
         records = self.folder / f"{self.program.name}.{number}"
         environment = {"LD_PRELOAD": self.library, "REFUSED": records}
@@ -277,7 +279,7 @@ class Build:
         records.unlink()
 
     def is_right(self, how, printed, status):
-        """Returns whether a copy, with one or all allocations refused, did what it should."""
+        """Returns whether a copy in which one or all allocations fail has a correct result."""
         if (printed, status) == (ENDED, 1):
             return True
         call = refused_call(printed)
@@ -297,13 +299,13 @@ def is_short(row):
 
 
 def byte_len(field):
-    """The length in bytes of a field of the table."""
+    """Returns the length in bytes of a field of the table."""
     field = re.sub(r"%\((\d+)\*([^)]*)\)", lambda found: int(found[1]) * found[2], field)
     return len(re.sub("%[0-9A-F]{2}", "x", field).encode())
 
 
 def doublings(room, length):
-    """Returns how often a buffer of the size `room` is doubled until it has `length` bytes."""
+    """Returns how often a buffer of `room` bytes must be doubled to have `length` bytes."""
     count = 0
     while room << count < length:
         count += 1
@@ -311,11 +313,13 @@ def doublings(room, length):
 
 
 def most_asked(call, fields):
-    """Returns how often a call may allocate for a row: one of litrs_build for the text of a
-    literal and for its value, `rewritten` also while the text becomes longer than that of the literal,
-    one of litrs_value for the literal and for a value that owns memory, `parse_until` for a value, and
-    a collector that is fed the lines of a text once a line where each is answered by `More` or
-    `Refused`, and by `feed_prefix` also for a literal and for its value."""
+    """Returns the greatest number of allocations of a call for a row.
+
+    A call of litrs_build allocates for the text of a literal and for its value. `rewritten`
+    allocates also while its text becomes longer than that of the literal. A call of litrs_value
+    allocates for the literal and for a value that owns memory, and `parse_until` for a value.
+    `feed` allocates once for each line of a text if it returns `More` or `Refused` for each.
+    `feed_prefix` allocates also for a literal and for its value."""
     if built := BUILD.fullmatch(call):
         if built[1] == "rewritten" and fields[0] == "rewritten":
             return 1 + doublings(byte_len(fields[1]), byte_len(fields[3]))
@@ -343,7 +347,8 @@ def table_rows(path):
 
 
 def try_rows(name, rows, folder):
-    """Runs a build on all rows, each with the bytes that its value takes where they are known."""
+    """Runs a build on all rows, each with the size of its value in bytes, or `None` if it is
+    unknown."""
     build = Build(name, folder / "refuse.so", folder)
     with concurrent.futures.ThreadPoolExecutor(os.cpu_count()) as pool:
         for _ in pool.map(build.try_row, enumerate(rows)):
@@ -352,7 +357,7 @@ def try_rows(name, rows, folder):
 
 
 def try_every_length(build, rows):
-    """Runs a build once on rows of every length, with nothing refused."""
+    """Runs a build once on rows of every length, without a failure."""
     text = "".join(f"{row}\n" for row in rows).encode()
     done = subprocess.run([build.program], input=text, capture_output=True, timeout=SECONDS)
     if (done.stdout, done.returncode) != (f"{len(rows)} rows hold\n".encode(), 0):
@@ -360,7 +365,8 @@ def try_every_length(build, rows):
 
 
 def report(build, wanted):
-    """Prints what was refused in a build. Whether it failed."""
+    """Prints the calls of a build whose allocations failed, and its faults. Returns whether there
+    are faults."""
     print(f"{build.program.name}: {build.copies} copies")
     for call in sorted(build.refused):
         print(f"  {build.refused[call]:7} {call}")
@@ -397,7 +403,7 @@ def main():
         for program in ["litrs_vectors", "litrs_vectors.by-rattle"]:
             build = try_rows(program, [*((row, None) for row in rows), *values], folder)
             try_every_length(build, every)
-            # Both builds ask alike.
+            # Both builds ask for the same numbers of bytes.
             values = []
             failed |= report(build, wanted)
     sys.exit(1 if failed else 0)

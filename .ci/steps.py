@@ -1,13 +1,14 @@
 #!/usr/bin/env python3
-"""Counts the instructions that a collector takes to be fed pieces.
+"""Counts the instructions that a collector takes for the pieces that are fed to it.
 
     .ci/steps.py [PROGRAM]
 
-Runs crates/litrs_vectors, which `rt ci` leaves in its out/, or the program given, on rows that
-feed a collector a piece N, 2N and 4N times. By .ci/steps.c each run says how many instructions it
-took. If each piece takes as many as the one before, those of 4N exceed those of 2N by twice as many
-as those of 2N exceed those of N. If each takes as many as all before it together, by four times as
-many. Fails where it is more than `MOST` times as many.
+Runs crates/litrs_vectors, which `rt ci` leaves in its out/, or the program given, on rows that feed
+a collector a piece N, 2N and 4N times. .ci/steps.c counts the instructions of each run.
+
+The growth is the difference between 4N and 2N, divided by that between 2N and N. It is 2 if each
+piece takes as many instructions as the one before it. It is 4 if the instructions of a piece are in
+proportion to the text before it. Fails if the growth is above `MOST`.
 """
 import concurrent.futures
 import functools
@@ -19,10 +20,10 @@ import tempfile
 
 TOP = pathlib.Path(__file__).resolve().parent.parent
 PROGRAM = TOP / "crates/litrs_vectors/out/litrs_vectors"
-# N.
+# The number N of pieces.
 COUNT = 100
 MOST = 2.5
-# Copies do not use the instruction that copies many bytes: it counts once for each byte.
+# Keeps copies from using the instruction that copies many bytes, which counts once for each byte.
 TUNABLES = ":".join(f"glibc.cpu.x86_rep_{it}_threshold=0x40000000" for it in ("movsb", "stosb"))
 # A first line, a piece, and a last line that completes a literal, as fields of the table.
 SHAPES = [
@@ -38,7 +39,7 @@ SHAPES = [
 
 
 def instructions(steps, program, shape, count):
-    """Returns how many instructions a row takes that feeds the piece `count` times."""
+    """Returns the number of instructions of a row that feeds the piece `count` times."""
     first, piece, last = shape
     row = f"feed\t{first}\t{piece}\t{count}\t{last}\n".encode()
     with tempfile.NamedTemporaryFile(dir=steps.parent) as number:
@@ -51,7 +52,7 @@ def instructions(steps, program, shape, count):
 
 
 def growth(numbers):
-    """Returns how many times as many instructions the last pieces take as those before them."""
+    """Returns the instructions of the last pieces divided by those of the pieces before them."""
     once, twice, four_times = numbers
     return (four_times - twice) / (twice - once)
 

@@ -1,13 +1,14 @@
 #!/usr/bin/env python3
-"""Runs the program uses_lexer on the table of tokens, and on texts that a slow lexer takes long for.
+"""Runs the program uses_lexer on the table of tokens, and on texts that take a slow lexer long.
 
     .ci/tokens.py
 
-The table is crates/litrs_lexer/tokens, which says what its fields are. Both builds of the program,
-which `rt ci` leaves in crates/uses_lexer/out, cut the text of each row into the tokens of the row.
-These are what rustc reads, in the edition 2021 as they are and in the others by the rules of
-crates/litrs_lexer/CALLING.md. The time for a long text is in proportion to its length. No program
-is run for what rustc reads: it is in the table.
+The table is crates/litrs_lexer/tokens, whose head explains its fields. Both builds of the program,
+which `rt ci` leaves in crates/uses_lexer/out, must cut the text of each row into the tokens of the
+row. In the edition 2021 those must be the tokens of rustc, unless the row notes a difference. In
+the other editions they must be the tokens of rustc after the rules of
+crates/litrs_lexer/CALLING.md. The table has the tokens of rustc, so rustc is not run. The time for
+a long text must be in proportion to its length.
 """
 import pathlib
 import random
@@ -24,32 +25,33 @@ LETTERS = {
     "UnknownPrefixLifetime": "t", "Literal": "l", "MalformedLiteral": "l", "Punctuation": "p",
 }
 BAD = {"MalformedLiteral", "UnknownPrefix", "UnknownPrefixLifetime", "UnterminatedBlockComment", "Unknown"}
-# Texts of files, each with the rest whose tokens are read.
+# Texts of files, each with the part whose tokens are read.
 FILES = [
     ("#!/bin/x -y\nfn", "\nfn"), ("#!/bin/x", ""), ("#!", ""), ("#! [a]", "#! [a]"), ("#![a]", "#![a]"),
     ("#!//b\n/* c */ [a]", "#!//b\n/* c */ [a]"), ("#!//b\n/** c */ [a]", "\n/** c */ [a]"),
     ("#!a[b]\n", "\n"), ("\ufefffn", "fn"), ("\ufeff#!a\nb", "\nb"), ("\ufeff\ufeff", "\ufeff"),
     (" #!a", " #!a"), ("# !a", "# !a"), ("#!/*", ""), ("#!\n[a]", "#!\n[a]"),
 ]
-# Texts that open again and again what they do not close, by the piece that is repeated.
+# Pieces that are repeated to texts, which open many comments or literals without closing them.
 PIECES = [
     "/*", "/**/", "/*/", "*/", "//", "'", "''", "'a", "'a'", '"', '"\\', 'b"', "r#", 'r#"', 'br"', "b'",
     "#", "'r#", "r#a", "a", "a#", "1", "1.", "0b2", "1e", "0x1.", "\\", "é", "🦊", " ", "\u2028",
     "true", 'true"', "'\\", 'c"', "(", "::", '"a"', "'a,",
 ]
 
-# Those that are tried at a million bytes.
+# The pieces that are repeated to a million bytes.
 LONG = ["/*", "'", '"', 'r#"']
 
 
 def bytes_of(field):
-    """Returns the bytes that a field of the table spells."""
+    """Returns the bytes that a field of the table denotes."""
     parts = re.split("%([0-9a-f]{2})", field)
     return b"".join(bytes.fromhex(it) if n % 2 else it.encode() for n, it in enumerate(parts))
 
 
 def rows():
-    """The rows of the table: what rustc reads by edition, the tokens, and whether the two differ."""
+    """Yields the rows of the table: the result of rustc by edition, the tokens, and whether they
+    differ."""
     for line in TABLE.read_text().splitlines():
         if line and not line.startswith("#"):
             read, *fields = line.split("\t")
@@ -73,8 +75,8 @@ def is_doc(kind, text):
 
 
 def in_2015(tokens):
-    """The tokens as the editions 2015 and 2018 read them: neither C strings, nor raw lifetimes, nor
-    reserved prefixes, but for `r` and `br` before hashes."""
+    """Yields the tokens of the editions 2015 and 2018. These do not have C strings, raw lifetimes
+    or reserved prefixes, except `r` and `br` before hashes."""
     for (kind, text), (_, after) in zip(tokens, [*tokens[1:], ("", b"")]):
         mark = re.match(rb"c(?=\")|cr(?=#*\")", text)
         if kind in ("Literal", "MalformedLiteral") and mark:
@@ -92,7 +94,8 @@ def in_2015(tokens):
 
 
 def in_2024(tokens):
-    """The tokens as the edition 2024 reads them: hashes before a string or another hash are reserved."""
+    """Yields the tokens of the edition 2024, in which hashes before a string or another hash are
+    reserved."""
     tokens = list(tokens)
     while tokens:
         pounds = 0
@@ -114,7 +117,7 @@ def in_2024(tokens):
 
 
 def as_read(tokens):
-    """The tokens as the table writes what rustc reads."""
+    """Returns the tokens in the form that the table has for the result of rustc."""
     out = []
     tokens = list(tokens)
     for kind, text in tokens:
@@ -127,7 +130,7 @@ def as_read(tokens):
 
 
 def cut(program, text):
-    """The tokens that the program writes for a text: kinds and ranges."""
+    """Returns the kinds and ranges of the tokens that the program prints for a text."""
     ran = subprocess.run([program], input=text, capture_output=True, timeout=100, check=True)
     lines = re.findall(rb"^(\w+) (\d+)\.\.(\d+) ", ran.stdout, re.M)
     assert len(lines) == ran.stdout.count(b"\n"), ran.stdout
@@ -135,7 +138,7 @@ def cut(program, text):
 
 
 def ranges(tokens):
-    """The tokens that are not white space, with their ranges."""
+    """Returns the kinds and ranges of the tokens that are not white space."""
     at, found = 0, []
     for kind, text in tokens:
         if kind != "Whitespace":
@@ -160,7 +163,7 @@ class Tests:
             for edition, view in views.items():
                 wanted, found = read[edition], as_read(view)
                 same = found.endswith("error") if wanted == "none error" else found == wanted
-                # (a difference is one in the edition 2021)
+                # The table marks differences in the edition 2021.
                 self.hold(same != (differs and edition == 2021) or differs and edition != 2021,
                           f"edition {edition} of {tokens}: {found}, and rustc {wanted}")
 
@@ -175,13 +178,14 @@ class Tests:
     def try_files(self, program):
         for text, rest in FILES:
             found = cut(program, text.encode())
-            # After a space nothing is taken off.
+            # A byte order mark or a shebang after a space is not skipped.
             wanted = cut(program, b" " + rest.encode())
             wanted = [(kind, start - 1, end - 1) for kind, start, end in wanted]
             self.hold(found == wanted, f"{program}: {text!r} is {found}, and {rest!r} {wanted}")
 
     def try_edits(self, program):
-        """An edit does not change the tokens before white space and a token that it follows."""
+        """Tests that an edit does not change the tokens before white space if it comes after the
+        token that follows the white space."""
         pieces = [*PIECES, " ", "\n", "\n ", ".", "x", "r", "##", "'\n"]
         draw = random.Random(1)
         for _ in range(300):
@@ -198,7 +202,7 @@ class Tests:
                 self.hold(kept == found, f"{program}: {text} and {front + back}: {kept}, {found}")
 
     def try_time(self, program):
-        """Four times the text takes less than eight times as long."""
+        """Tests that four times the text takes less than eight times as long."""
         for piece in PIECES:
             spent = []
             for size in (250_000, 1_000_000) if piece in LONG else (50_000, 200_000):

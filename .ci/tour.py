@@ -1,11 +1,11 @@
 #!/usr/bin/env python3
-"""Checks that each line of code that docs/TOUR.md quotes is in its file.
+"""Checks that the files have each line of code that docs/TOUR.md quotes.
 
     .ci/tour.py
 
-A block of code is a run of lines that are set in by four blanks. Its lines have to be, in their
-order, in one of the files that its section names before it; `..` marks what is left out. A file
-is named by the end of its path, and has to be there.
+A block of code is a run of lines that are indented by four spaces. One of the files that its
+section names before it must have these lines, in their order. `..` marks a part that is left out.
+A file is named by the end of its path, and must exist.
 """
 import pathlib
 import re
@@ -17,18 +17,18 @@ NAMED = re.compile(r"`((?:\w+/)*\w+\.(?:rt|antt)|\w+/stdout)`")
 
 
 def files():
-    """The files of the crates that a page may name."""
+    """Returns the files of the crates that the page may name."""
     crates, parts = TOP / "crates", ("src/**/*.rt", "specs/**/*.antt", "proofs/**/*.antt", "stdout")
     return [it for part in parts for it in crates.glob(f"*/{part}")]
 
 
 def sections(text):
-    """The sections of the page, each a heading and its lines."""
+    """Returns the sections of the page, each a heading and its lines."""
     return re.split(r"^(?=## )", text, flags=re.M)
 
 
 def blocks(section):
-    """The blocks of code of a section, each with the text before it."""
+    """Yields the blocks of code of a section, each with the text before it."""
     for found in re.finditer(r"(?:^ {4}.*\n(?:\s*\n(?= {4}))?)+", section, re.M):
         yield section[: found.start()], found[0]
 
@@ -38,7 +38,7 @@ def squeezed(text):
 
 
 def is_in(block, text):
-    """Returns whether the pieces of a block are in a text, one after the other."""
+    """Returns whether `text` has the pieces of a block, one after the other."""
     place, text = 0, squeezed(text)
     for line in block.splitlines():
         for piece in re.split(r"(?:^|(?<=\s))\.\.(?=\s|$)", line):

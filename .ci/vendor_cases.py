@@ -1,6 +1,7 @@
-"""Tries bin/vendor over two small repositories: what it refuses, replaces, and leaves.
+"""Tests bin/vendor over two small repositories: the runs that it rejects, and the files that it
+replaces and leaves.
 
-.ci/vendored.py runs the cases. Each has repositories of its own, so that a fault harms no other.
+.ci/vendored.py runs the cases. Each has its own repositories, so a fault does not affect others.
 """
 import concurrent.futures
 import dataclasses
@@ -22,8 +23,8 @@ OURS = {
     "crates/litrs/specs/Lib.antt": "-- litrs\n",
     "crates/litrs/wrong/a.edit": "file: src/lib.rt\n",
 }
-# With copies of an older version, a copy that was renamed, a crate of their own by the name of a
-# crate that ours had, and no line end after the last line.
+# The files of a repository with copies of an older version, a renamed copy, a crate of its own by
+# the name of a former crate of ours, and no line end after the last line.
 THEIRS = {
     "crates.txt": "# litrs: a\n litrs_low\nlitrs_own:\nlitrs_parts: litrs_low\nlitrs: a\napp: litrs",
     "crates/app/src/main.rt": "// app\n",
@@ -39,7 +40,7 @@ THEIRS = {
     "crates/litrs/older/lib.rt": "// older\n",
     "crates/litrs/VERSION": "1.0.1-rattle.1+0123456789ab\n",
 }
-# Theirs after a copy of ours.
+# The files of `theirs` after a copy of ours.
 COPIED = {
     "crates.txt": "# litrs: a\nlitrs_own:\napp: litrs\nlitrs_low:\nlitrs: litrs_low itoa\n",
     "crates/app/src/main.rt": "// app\n",
@@ -54,13 +55,13 @@ COPIED = {
     "crates/litrs/LICENSE-MIT": "MIT\n",
     "crates/litrs/VERSION": "1.0.1-rattle.2\n",
 }
-# The lines of theirs after a copy of `litrs_low` alone, and after one of all and then of that.
+# The lines of `theirs` after a copy of `litrs_low` alone, and after a copy of all and then of it.
 LINES_OF_LOW = [
     "# litrs: a\nlitrs_own:\nlitrs: a\napp: litrs\nlitrs_low:\n",
     "# litrs: a\nlitrs_own:\napp: litrs\nlitrs: litrs_low itoa\nlitrs_low:\n",
 ]
-# Stands in place of a program that bin/vendor calls. Call number $CALL fails if $SIGNAL is empty,
-# and otherwise sends that signal to the script first.
+# Replaces a program that bin/vendor calls. Call number $CALL fails if $SIGNAL is empty, and
+# otherwise sends that signal to the script first.
 TOOL = """#!/bin/sh
 echo >> "$CALLS"
 if [ "$(wc -l < "$CALLS")" -eq "$CALL" ]; then
@@ -70,7 +71,7 @@ fi
 %s
 exec %s "$@"
 """
-# After a signal `cp` is slow, and makes the folder that it copies to.
+# Makes `cp` slow after a signal, and makes the folder that it copies to.
 SLOW = 'if [ "$SIGNAL" ]; then sleep 0.2; for last; do :; done; mkdir -p "$last"; fi'
 
 
@@ -81,7 +82,7 @@ def write(folder, files):
 
 
 def files_of(folder):
-    """Returns the text of each file below a folder, and what the links and folders are."""
+    """Returns the text of each file below a folder, and the types of the links and folders."""
     found = {}
     for it in folder.rglob("*"):
         path = str(it.relative_to(folder))
@@ -130,8 +131,8 @@ class Room:
         return sorted({it[0] for it in before.items() ^ files_of(self.folder).items()})
 
     def faults_of_stop(self, status, words, message, **how):
-        """Yields the faults of a run that must end with this status and message, and write
-        nothing."""
+        """Yields the faults of a run that must end with this status and message, and must not
+        write."""
         ran = self.run(*words, **how)
         if ran.returncode != status or ran.stdout or message not in ran.stderr:
             yield f"{words}: status {ran.returncode}, {ran.stdout + ran.stderr!r}, wanted {message}"
@@ -161,7 +162,8 @@ def is_in_ours(word, folder, links=None, **how):
 
 
 def has_own_crate(files, folder, links=None):
-    """A crate of theirs has the name of one of ours, on which the named one depends."""
+    """Yields the faults if `theirs` has a crate by the name of one on which the named one
+    depends."""
     room = Room(folder, {"crates.txt": "litrs_low:\n", **files}, links or {})
     yield from room.faults_of_stop(1, ["theirs"], "crates/litrs_low is not a copy")
 
@@ -178,7 +180,7 @@ def has_older_copies(folder):
 
 
 def has_linked_copy(folder):
-    """A link to a copy is replaced, and the copy stays."""
+    """Yields the faults if a link to a copy is not replaced, or the copy does not stay."""
     theirs = {it: text for it, text in THEIRS.items() if not it.startswith("crates/litrs/")}
     room = Room(folder, theirs, {"theirs/crates/litrs": "ours/../elsewhere"})
     write(folder / "elsewhere", {"VERSION": THEIRS["crates/litrs/VERSION"]})
@@ -187,7 +189,8 @@ def has_linked_copy(folder):
 
 
 def has_linked_lines(folder):
-    """The file crates.txt is a link, which stays: what it names has the lines."""
+    """Yields the faults if crates.txt is a link. The link must stay, and its target must have the
+    lines."""
     theirs = {it: text for it, text in THEIRS.items() if it != "crates.txt"}
     room = Room(folder, theirs, {"theirs/crates.txt": "lines"})
     write(folder, {"lines": THEIRS["crates.txt"]})
@@ -205,7 +208,7 @@ def is_absent(folder):
 
 
 def stopped_run(room, tool, signal, call):
-    """Runs the script, which fails or is interrupted at this call of a tool."""
+    """Runs the script, which must fail or be interrupted at this call of a tool."""
     tools, counted = (room.folder.with_name(f"{room.folder.name}-{it}") for it in ("tools", "calls"))
     write(tools, {tool: TOOL % (SLOW if tool == "cp" else "", shutil.which(tool))})
     (tools / tool).chmod(0o755)
@@ -214,8 +217,8 @@ def stopped_run(room, tool, signal, call):
 
 
 def is_stopped(tool, signal, calls, folder):
-    """At each of these calls of a tool the run fails or is interrupted: the older copies stay.
-    While files are only renamed, a run that is interrupted completes."""
+    """Yields the faults of runs that fail or are interrupted at one of these calls of a tool. The
+    older copies must stay. A run that is interrupted while it only renames files must complete."""
     for call in calls:
         room = Room(folder / str(call), THEIRS)
         ran = stopped_run(room, tool, signal, call)
@@ -229,9 +232,11 @@ def is_stopped(tool, signal, calls, folder):
 
 
 def is_run_again(tool, calls, folder):
-    """The run after one that was killed leaves nothing of it, whether it copies the same crates or
-    one of them: then the other is the older copy, or the newer if all were replaced. A folder of a
-    run that has not ended stays, and one that names no run."""
+    """Yields the faults of the run after one that was killed.
+
+    The run must remove everything that the killed one left, whether it copies the same crates or
+    one of them. The other crate is then the older copy, or the newer one if all were replaced. The
+    folder of a run that has not ended must stay, and so must one that does not name a run."""
     live = {"crates/.vendor.live/run": f"{os.uname().nodename} {os.getpid()}\n"}
     live["crates/.vendor.mine/older/app/src/lib.rt"] = "// mine\n"
     for call in calls:
@@ -252,7 +257,7 @@ def is_run_again(tool, calls, folder):
                 yield f"{how}, {ran.stderr!r}, {len(changed)} files are wrong: {changed[:4]}"
 
 
-# Functions over the folder of a case, which yield its faults.
+# The cases: functions that yield the faults of a case in a given folder.
 CASES = [
     partial(asks_help, "--help"),
     partial(asks_help, "-h"),
@@ -300,7 +305,7 @@ def faults_of_case(number, room):
 
 
 def faults(room):
-    """Returns the faults of each case, run in a folder of its own below `room`."""
-    # Processes: a thread would begin a program while another one writes it.
+    """Returns the faults of each case, run in its own folder below `room`."""
+    # The cases run in processes, since a thread could start a program that another one writes.
     with concurrent.futures.ProcessPoolExecutor(len(os.sched_getaffinity(0))) as pool:
         return list(pool.map(partial(faults_of_case, room=room), range(len(CASES))))

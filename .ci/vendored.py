@@ -1,20 +1,22 @@
 #!/usr/bin/env python3
-"""Puts crates into an absent folder, and calls them there as another repository would.
+"""Copies crates to a new folder, and calls them there as another repository would.
 
     .ci/vendored.py
 
-After `rt ci`. `bin/vendor` copies the libraries that have a page CALLING.md, the C library and a
-program, twice: the second time over a copy that was changed. Each crate there must be ours, file by
-file, with our line in crates.txt, our version and no broken link, and there must be no other. So
-what `rt ci` proved of ours holds of the copies: the callers of all pages are proved over the
-libraries that it left, as modules of one crate, since a crate costs more than a caller. Each may
-name no other crate than those of the line of crates.txt that its page gives it.
+Runs after `rt ci`. `bin/vendor` copies the libraries that have a page CALLING.md, the C library and
+a program. It does so twice, the second time over a changed copy. Each crate there must be ours,
+file by file, with our line in crates.txt, our version and no broken link. There must be no other
+crate. So the copies are the crates that `rt ci` proved.
 
-The lines of README are run too, in their order, from an absent folder on: its program, compiled
-there from copied sources, must print what README says. The line that runs a program here must end
-with status 0.
+The callers on all pages are proved over the libraries that `rt ci` left. They are modules of one
+crate, since a crate costs more than a caller. Each must name only the crates in the line of
+crates.txt that its page has for it.
 
-The cases of vendor_cases.py try what `bin/vendor` refuses, replaces and leaves.
+The lines of README are run too, in their order, starting without the folder. Its program, compiled
+there from copied sources, must print the output on the page. The line that runs a program here must
+end with status 0.
+
+The cases of vendor_cases.py test the other runs of `bin/vendor`.
 """
 import concurrent.futures
 import dataclasses
@@ -33,7 +35,7 @@ from libraries import TOP
 CALLED = ["litrs", "litrs_token", "litrs_prefix", "litrs_lexer", "litrs_build", "litrs_value"]
 CALLED += ["litrs_diagnostic", "litrs_explanation", "litrs_lines"]
 COPIED = [*CALLED, "litrs_c", "litrs_lines_cli"]
-# Folders of a crate that are not copied.
+# The folders of a crate that are not copied.
 LEFT = {"out", "wrong", "must-fail"}
 # The first line of a caller.
 TACTICS = "#![tactic(auto)]\n"
@@ -43,7 +45,7 @@ VERSION = re.search(r"^## \[(\d\S*)\]", (TOP / "CHANGELOG.md").read_text(), re.M
 
 
 def vendor(folder):
-    """Copies the crates into the folder, and again over what is no longer as it was copied."""
+    """Copies the crates into the folder, changes the copies, and copies the crates again."""
     words = [TOP / "bin/vendor", folder, *COPIED]
     subprocess.run(words, check=True)
     (folder / "crates/litrs/src/lib.rt").write_text("")
@@ -55,20 +57,20 @@ def vendor(folder):
 
 
 def files_of(crate):
-    """The files of a crate's folder that are copied, by their paths in it."""
+    """Returns the files of a crate's folder that are copied, by their paths in it."""
     files = (it for it in crate.rglob("*") if it.is_file())
     paths = {it.relative_to(crate): it for it in files}
     return {str(path): it.read_bytes() for path, it in paths.items() if path.parts[0] not in LEFT}
 
 
 def names_of_copies():
-    """The crates that are copied, and those that they depend on."""
+    """Returns the crates that are copied, with those that they depend on."""
     crates = libraries.crates_of(TOP)
     return {it for name in COPIED for it in [name, *crates[name].below(crates)]}
 
 
 def broken_links(crate):
-    """The links of a crate's pages to files that are not there."""
+    """Yields the links of a crate's pages to files that do not exist."""
     for page in crate.glob("*.md"):
         for link in re.findall(r"\]\(([^)#:]+)\)", page.read_text()):
             if not (crate / link).exists():
@@ -76,7 +78,7 @@ def broken_links(crate):
 
 
 def faults_of_copies(folder):
-    """Yields the differences of the copies."""
+    """Yields the differences between the copies and our crates."""
     ours, copied = libraries.crates_of(TOP), libraries.crates_of(folder)
     wanted = names_of_copies()
     folders = {it.name for it in (folder / "crates").iterdir()}
@@ -95,21 +97,22 @@ def faults_of_copies(folder):
 
 
 def blocks_of(page, language):
-    """The blocks of a page in this language."""
+    """Returns the blocks of a page in this language."""
     return [found[2] for found in BLOCK.finditer(page) if found[1] == language]
 
 
 @dataclasses.dataclass
 class Caller:
-    """A crate that a page shows: its line of crates.txt, and its files by their paths."""
+    """A crate on a page: its line of crates.txt, and its files by their paths."""
 
     line: str
     files: dict
 
 
 def callers_of(page):
-    """The callers of a page. Each is a block that begins with a line of tactics, below its line of
-    crates.txt; the blocks of its proofs and definitions follow, each below the path of its file."""
+    """Yields the callers of a page. Each is a block that begins with a line of tactics, below its
+    line of crates.txt. The blocks of its proofs and definitions follow, each below the path of its
+    file."""
     callers = []
     for block in BLOCK.finditer(page):
         spans = re.findall(r"`([^`\n]+)`", BLOCK.sub("", page[: block.start()]))
@@ -123,7 +126,7 @@ def callers_of(page):
 
 
 def strangers(caller):
-    """The crates that a caller names and its line does not."""
+    """Returns the crates that a caller names but its line does not."""
     name, deps = caller.line.split(":")
     libraries_of_kit = {it.stem for it in (libraries.KIT / "rlibs").glob("*.rlib")}
     known = {*libraries.crates_of(TOP), *libraries_of_kit} - {"std", name}
@@ -133,7 +136,7 @@ def strangers(caller):
 
 
 def add_callers(folder, callers):
-    """Adds a crate to a repository, each of whose modules is a caller. Returns its folder."""
+    """Adds a crate to a repository, with a module for each caller. Returns its folder."""
     crate = folder / "crates/callers"
     root, deps = TACTICS, set()
     for caller in callers:
@@ -154,7 +157,7 @@ def add_callers(folder, callers):
 
 
 def fault_of_proof(folder, crate):
-    """Returns why the callers in this folder are not proved, None if they are."""
+    """Returns why the callers in this folder are not proved, or `None` if they are."""
     crates = libraries.crates_of(folder)
     words = libraries.words_of("check", crates[crate.name], crates, "src/lib.rt")
     how = {"cwd": crate, "stdout": subprocess.PIPE, "stderr": subprocess.STDOUT, "text": True}
@@ -165,7 +168,7 @@ def fault_of_proof(folder, crate):
 
 
 def run_lines(lines, folder):
-    """Returns what lines of the shell print in this folder, and why they failed, or None."""
+    """Returns the output of shell lines in this folder, and why they failed, or `None`."""
     how = {"stdin": subprocess.DEVNULL, "capture_output": True, "text": True, "cwd": folder}
     ran = subprocess.run(["bash", "-e", "-o", "pipefail", "-c", lines], check=False, **how)
     if ran.returncode:
@@ -174,7 +177,8 @@ def run_lines(lines, folder):
 
 
 def fault_of_readme(room):
-    """Returns why README's lines do not make its program or print what it says, None if they do."""
+    """Returns why README's lines do not make its program or print other output, or `None` if they
+    are correct."""
     set_up, run = (it.replace("../yours", str(room)) for it in blocks_of(README, "sh")[:2])
     _, fault = run_lines(set_up, TOP)
     if fault:
@@ -187,12 +191,12 @@ def fault_of_readme(room):
 
 
 def fault_of_line_here():
-    """Returns why README's line that runs a program here fails, None if it does not."""
+    """Returns why README's line that runs a program here fails, or `None` if it does not."""
     return run_lines(blocks_of(README, "sh")[2], TOP)[1]
 
 
 def faults_of_callers(folder, callers, room):
-    """Yields what fails of the callers and of README, as many at once as there are processors."""
+    """Yields the faults of the callers and of README, with a test on each processor at a time."""
     for caller in callers:
         if named := strangers(caller):
             yield f"{caller.line}: it names {named}"

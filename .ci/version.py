@@ -1,11 +1,11 @@
 #!/usr/bin/env python3
-"""Compares the version that each file names with that of CHANGELOG.md.
+"""Compares the version in each file with that of CHANGELOG.md.
 
     .ci/version.py          fails if a file names another version
     .ci/version.py --write  writes the version into the files
 
-The version is that of the newest dated entry. `bin/vendor` reads it there, and crates/litrs_c/build
-in litrs.h.
+The version is that of the newest dated entry. `bin/vendor` reads it from there, and
+crates/litrs_c/build reads it from litrs.h.
 """
 import pathlib
 import re
@@ -13,7 +13,7 @@ import sys
 
 TOP = pathlib.Path(__file__).resolve().parent.parent
 FULL, MAJOR, MINOR, PATCH, NUMBERS = range(5)
-# A file, a pattern whose group is the version, and its form.
+# The places of the version: a file, a pattern whose group is the version, and its form.
 PLACES = [
     ("README.md", r"Its version is (\S+)\. ", FULL),
     ("crates/litrs_explain/src/options.rt", r'const VERSION: &str = "(.*)";', FULL),
