@@ -1,24 +1,35 @@
-/* Prints what the C library answers of texts. .ci/c_library.py compares it with what is wanted.
+/* Prints the results of the C library for texts, which .ci/c_library.py compares with the wanted
+ * ones.
  *
- * Standard input has a text a line, in hex. The line that is printed of a text has the fields of
- * litrs_answer in their order, what litrs_goes_on answers, and the status, length and bytes in hex
- * of litrs_value and of litrs_message; then those of litrs_parse, litrs_value and litrs_message,
- * by their status alone, with every allocation refused; then how often memory was asked for by
- * litrs_parse, litrs_value, litrs_message and litrs_goes_on; the fields of litrs_prefix in their
- * order, its status with every allocation refused, and how often it asked for memory; of litrs_f64
- * and of litrs_f32, the status, the bits of the value, the status with every allocation refused,
- * and how often it asked for memory; and at last of each token the kind, what it documents, 1 if it
- * is trivia, and its end. It ends with status 2 where a call wrote outside of its room or kept
- * memory, where litrs_f64 or litrs_f32 wrote without a value, where a form that ends in _into
- * answers otherwise than by value or writes what the status does not speak of, where NULL is not
- * the empty text, where the names of kinds are others, where what is written of a value is not its
- * literal, and where a cursor is moved or a token written that is not there.
+ * Standard input has a text in each line, in hex. The line that is printed for a text has these
+ * fields:
  *
- * A walk over a long text has to read no more of it at each step than the page of its place, the
- * next one, and the last one, of which it may ask what the last character is. All other pages are
- * protected, so a step that reads them ends the program by a signal.
+ * - the fields of litrs_answer in their order, and the result of litrs_goes_on;
+ * - the status, length and bytes in hex of litrs_value and of litrs_message;
+ * - the status of litrs_parse, litrs_value and litrs_message if every allocation fails;
+ * - the numbers of allocations of litrs_parse, litrs_value, litrs_message and litrs_goes_on;
+ * - the fields of litrs_prefix in their order, its status if every allocation fails, and the number
+ *   of its allocations;
+ * - of litrs_f64 and of litrs_f32, the status, the bits of the value, the status if every
+ *   allocation fails, and the number of allocations;
+ * - of each token, the kind, what it documents, 1 if it is trivia, and its end.
  *
- * It is linked with --wrap for malloc, realloc and free. */
+ * The program ends with status 2 in these cases:
+ *
+ * - A call writes outside of its room or keeps memory.
+ * - litrs_f64 or litrs_f32 writes without a value.
+ * - A form that ends in _into differs from the form by value, or writes a field that the status
+ *   does not define.
+ * - NULL is not the empty text.
+ * - The names of kinds are wrong.
+ * - The written literal of a value is not parsed as the value.
+ * - A cursor moves or a token is written although there is no token.
+ *
+ * A walk over a long text must read only three pages at each step: the page of its place, the next
+ * one, and the last one, where it may read the last character. All other pages are protected, so a
+ * step that reads them ends the program by a signal.
+ *
+ * The program is linked with --wrap for malloc, realloc and free. */
 #define _DEFAULT_SOURCE
 
 #include "litrs.h"
@@ -69,7 +80,8 @@ static void hold(bool holds, const char *what) {
     }
 }
 
-/* Prints what a call writes to rooms of each of some lengths: to the longest all of it. */
+/* Prints the output of a call for which the room is long enough. Rooms of shorter lengths are tried
+ * too. */
 static void print_written(writes *call, const uint8_t *text, size_t len, uint8_t *room) {
     litrs_written all = call(text, len, room, 0), same;
     size_t rooms[] = {all.len / 2, all.len, all.len + 3}, i, k;
@@ -91,7 +103,7 @@ static void print_written(writes *call, const uint8_t *text, size_t len, uint8_t
     printf(".");
 }
 
-/* The fields of an answer, in their order. */
+/* The number of the fields of an answer. */
 enum { FIELDS = 24 };
 
 static size_t put_place(uint64_t *fields, size_t at, litrs_place place) {
@@ -152,8 +164,8 @@ static size_t parse_into(const uint8_t *text, size_t len, litrs_answer *answer) 
     return 0;
 }
 
-/* Over an answer of zeros a form that ends in _into gives what the form by value gives; of another
- * it leaves what the status does not speak of. */
+/* Stops if a form that ends in _into differs from the form by value over an answer of zeros, or if
+ * it changes a field of another answer that the status does not define. */
 static void hold_into(parses_into *call, const uint8_t *text, size_t len, litrs_prefix wanted) {
     litrs_prefix into;
     memset(&into, 0, sizeof into);
@@ -177,7 +189,7 @@ static void hold_parses_into(const uint8_t *text, size_t len) {
     hold_into(litrs_parse_prefix_into, text, len, litrs_parse_prefix(text, len));
 }
 
-/* Prints what litrs_f64 answers, and holds it to write nothing but a value. */
+/* Prints the result of litrs_f64, and stops if it writes without a value. */
 static void print_f64(const uint8_t *text, size_t len) {
     uint64_t bits, untouched;
     size_t by_call;
@@ -224,12 +236,12 @@ static void print_f32(const uint8_t *text, size_t len) {
     printf(" %u %zu", (unsigned)refused, by_call);
 }
 
-/* Texts from this length on are walked once, and not from each place. */
+/* The length from which on a text is walked only once, and not from each place. */
 enum { SHORT = 1000 };
 
 static size_t from;
 
-/* The call on a text that is checked, from a place on, in the form of the call on a text. */
+/* Calls litrs_parse_prefix_from on a checked text, with the parameters of litrs_parse_prefix. */
 static size_t parse_prefix_from(const uint8_t *text, size_t len, litrs_answer *answer) {
     litrs_cursor cursor, old;
     hold(litrs_check(text, len, &cursor), "the text is not UTF-8");
@@ -240,8 +252,8 @@ static size_t parse_prefix_from(const uint8_t *text, size_t len, litrs_answer *a
     return len;
 }
 
-/* From each place of the text and one past it: a token is there if a character begins there, and
- * what is at the front is that of the text from there on. */
+/* Tests each place of the text and one past it. There must be a token iff a character begins there.
+ * The literal at the front must be that of the text from the place on. */
 static void hold_places(const litrs_cursor *start) {
     for (from = 0; from <= start->len + 1; from++) {
         bool begins = from < start->len && (start->text[from] & 0xC0) != 0x80;
@@ -265,7 +277,7 @@ static void hold_places(const litrs_cursor *start) {
     }
 }
 
-/* Prints the tokens of a text, and holds them to be its parts, one after the other. */
+/* Prints the tokens of a text, and stops if they are not its parts, one after the other. */
 static void print_tokens(const uint8_t *text, size_t len) {
     size_t before = asked, last = 0;
     litrs_cursor cursor, start;
@@ -295,7 +307,7 @@ static void print_tokens(const uint8_t *text, size_t len) {
     hold(!litrs_next_token(&cursor, &token) && cursor.at == SIZE_MAX, "a token past the end");
 }
 
-/* Memory whose pages can be protected, filled with lines of tokens. */
+/* Returns memory whose pages can be protected, filled with lines of tokens. */
 static uint8_t *pages_of_lines(size_t size) {
     static const char line[] = "let \xc3\xa9 = b\"\\n\" + 0x1F_u8; // \xe2\x82\xac\n";
     int reads = PROT_READ | PROT_WRITE, own = MAP_PRIVATE | MAP_ANONYMOUS;
@@ -308,7 +320,7 @@ static uint8_t *pages_of_lines(size_t size) {
     return text;
 }
 
-/* Moves the cursor over the tokens that start before a place, and returns how many there are. */
+/* Moves the cursor over the tokens that start before a place, and returns their number. */
 static size_t walk_up_to(litrs_cursor *cursor, size_t place) {
     litrs_token token;
     litrs_answer answer;
@@ -321,7 +333,7 @@ static size_t walk_up_to(litrs_cursor *cursor, size_t place) {
     return count;
 }
 
-/* Walks a text of which only the page of the cursor, the next one and the last one can be read. */
+/* Walks a text while only the page of the cursor, the next one and the last one can be read. */
 static void hold_window(void) {
     size_t page = (size_t)sysconf(_SC_PAGESIZE), count = 64, size = page * count, walked = 0, i;
     uint8_t *text = pages_of_lines(size);
@@ -377,7 +389,7 @@ static void print_text(const uint8_t *text, size_t len, uint8_t *room) {
     hold(held == before, "memory is kept");
 }
 
-/* NULL with length 0 is the empty text, and a room of no bytes. */
+/* Tests that NULL with length 0 is the empty text, and an empty room. */
 static void hold_null(void) {
     static const uint8_t none[1];
     uint8_t room[80];
@@ -409,8 +421,9 @@ static void hold_null(void) {
     hold(value.status == LITRS_LITERAL && value.len == 1, "no length for a room of NULL");
 }
 
-/* What is written of a value parses as the same value, with the same suffix. Memory is asked for
- * once, for the text, and once more where that has an escape; not at all for a wrong suffix. */
+/* Tests that the written literal of a value is parsed as the same value with the same suffix. There
+ * must be an allocation for the text, and a second one if the text has an escape. There must not be
+ * an allocation for a wrong suffix. */
 static void hold_bytes(writes_value *call, const uint8_t *value, size_t len, int kind) {
     static const uint8_t suffix[] = {'u', '8'};
     static uint8_t text[1 << 12], room[1 << 12];
@@ -447,7 +460,7 @@ static void hold_integer(uint64_t low, uint64_t high, const char *wanted) {
     hold(asked == before + 1, "memory is asked for a wrong suffix");
 }
 
-/* The literals of values: each byte, and texts of characters of each length. */
+/* Tests the literals of values: each byte, and texts of characters of each length. */
 static void hold_literals(void) {
     static const char text[] = "a\"\\\n\r\t\0'\x7f\xc2\xad\xc3\xa9\xe2\x80\x8b\xf0\x9f\xa6\x8a";
     uint8_t bytes[256];
@@ -468,7 +481,7 @@ static void hold_literals(void) {
     hold(held == before, "memory is kept");
 }
 
-/* Holds a call that writes a value to its status, to the text that is wanted, and to no more. */
+/* Stops if a call that writes a value has another status or text than wanted, or writes more. */
 static void hold_written(litrs_written written, const uint8_t *room, int status,
                          const char *wanted) {
     size_t i;
@@ -478,7 +491,7 @@ static void hold_written(litrs_written written, const uint8_t *room, int status,
         hold(room[i] == 0xAA, "a write past the literal");
 }
 
-/* Values and suffixes that are empty, that have a NUL, or that are not UTF-8. */
+/* Tests values and suffixes that are empty, that have a NUL, or that are not UTF-8. */
 static void hold_edges(void) {
     static const struct {
         const char *value, *suffix;
@@ -514,7 +527,7 @@ static void hold_edges(void) {
     }
 }
 
-/* The names of kinds, and the version. */
+/* Tests the names of kinds, and the version. */
 static void hold_names(void) {
     hold(strcmp(litrs_version(), LITRS_VERSION) == 0, "another version");
     hold(strcmp(litrs_kind_name(LITRS_BOOL), "Bool") == 0, "another first kind");

@@ -1,9 +1,11 @@
 /* Makes reads of standard input and writes to standard output of a process fail or fall short. The
  * process loads it by LD_PRELOAD.
  *
- * READ_PIECE=N and WRITE_PIECE=N: a call moves at most N bytes. READ_FIRST=N: the first read does.
- * READ_FAILS=N and WRITE_FAILS=N: the Nth call, counted from 1, fails, with the error number
- * IO_ERROR. IO_COUNT=FILE: the numbers of reads and of writes are appended to the file at the end. */
+ * - READ_PIECE=N and WRITE_PIECE=N: a call moves at most N bytes.
+ * - READ_FIRST=N: the first read moves at most N bytes.
+ * - READ_FAILS=N and WRITE_FAILS=N: the Nth call, counted from 1, fails with the error number
+ *   IO_ERROR.
+ * - IO_COUNT=FILE: the numbers of reads and of writes are appended to the file at the end. */
 #define _GNU_SOURCE
 #include <errno.h>
 #include <fcntl.h>
@@ -14,13 +16,13 @@
 
 static unsigned long reads, writes;
 
-/* The number in an environment variable, or 0. */
+/* Returns the number in an environment variable, or 0 if it is not set. */
 static unsigned long number(const char *name) {
     const char *value = getenv(name);
     return value == NULL ? 0 : strtoul(value, NULL, 10);
 }
 
-/* Counts a call, and makes it fail or move fewer bytes where that is asked for. */
+/* Counts a call, and makes it fail or move fewer bytes if the environment says so. */
 static ssize_t move(long call, int fd, void *buffer, size_t size, unsigned long *count,
                     const char *fails, const char *piece) {
     unsigned long most = number(count == &reads && reads == 0 && getenv("READ_FIRST") != NULL

@@ -1,4 +1,4 @@
-/* Parses a text again and again: parses TEXT COUNT. */
+/* Parses a text `COUNT` times: parses TEXT COUNT. */
 #include <litrs.h>
 #include <stdlib.h>
 #include <string.h>

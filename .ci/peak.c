@@ -1,7 +1,7 @@
-/* Counts how much memory a process holds at most. The process loads this by LD_PRELOAD.
+/* Measures the memory that a process holds at most. The process loads this by LD_PRELOAD.
  *
- * At its end it writes to the file that PEAK names how many bytes the blocks had that were in use
- * together, as the C library has them. */
+ * At its end the process writes a number to the file that PEAK names: the most bytes of the blocks
+ * that were in use together, with the block sizes of the C library. */
 #include <errno.h>
 #include <malloc.h>
 #include <stdio.h>
@@ -15,7 +15,7 @@ void __libc_free(void *block);
 
 static size_t held, peak;
 
-/* The block, which is in use from here on. */
+/* Counts a block that is in use from now on, and returns it. */
 static void *counted(void *block) {
     held += malloc_usable_size(block);
     if (peak < held)

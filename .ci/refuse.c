@@ -1,15 +1,14 @@
-/* Refuses each allocation of a process in turn. The process loads this by LD_PRELOAD.
+/* Makes each allocation of a process fail in turn. The process loads this by LD_PRELOAD.
  *
- * Before an allocation the process is copied twice. In the first copy this allocation is refused,
- * and in the second, which is not made where REFUSED_ALONE is set, this one and all later ones; both
- * go on to their end. What a copy prints, and its status, are appended to the file that REFUSED
- * names:
+ * Before an allocation the process is copied twice. In the first copy this allocation fails, and in
+ * the second this one and all later ones. If REFUSED_ALONE is set, there is no second copy. Both
+ * copies run to their end. A record of each copy is appended to the file that REFUSED names:
  *
- *     one 7 80 0 0 12   or `all`, the number of the allocation and how many bytes it is of, those
- *                       that the block had before, the status, the bytes that follow
- *     1 rows hold..     what it printed on both standard outputs, and a line end
+ *     one 7 80 0 0 12   `one` or `all`, the number of the allocation, its bytes, the bytes that the
+ *                       block had before, the status, and the number of bytes that follow
+ *     1 rows hold..     the text on both standard outputs, and a line end
  *
- * The process itself then continues, and nothing is refused to it. */
+ * The process itself then continues without a failure. */
 #include <errno.h>
 #include <fcntl.h>
 #include <malloc.h>
@@ -18,7 +17,7 @@
 #include <sys/wait.h>
 #include <unistd.h>
 
-/* A copy is ended after this number of seconds. */
+/* The number of seconds after which a copy is ended. */
 #define SECONDS 60
 
 void *__libc_malloc(size_t size);
@@ -32,12 +31,12 @@ static size_t asked, before;
 static enum { COPIES, REFUSES_ALL, REFUSES_NONE } state = REFUSES_NONE;
 static char printed[1 << 16];
 
-/* Ends the process by a status that the program has not. */
+/* Ends the process with a status that the program does not have. */
 static void fail(void) {
     _exit(99);
 }
 
-/* Reads what a copy prints. */
+/* Reads the output of a copy. Returns its length. */
 static size_t read_all(int from) {
     size_t size = 0;
     ssize_t count;
@@ -48,7 +47,7 @@ static size_t read_all(int from) {
     return size;
 }
 
-/* Copies the process. Whether this is the copy; else it has ended. */
+/* Copies the process. Returns 1 in the copy, and 0 in the process itself after the copy has ended. */
 static int is_copy(const char *how) {
     int pipes[2], status;
     char head[96];
@@ -79,7 +78,7 @@ static int is_copy(const char *how) {
     return 0;
 }
 
-/* Returns 1 if an allocation of `size` bytes is refused, for this block or a new one. */
+/* Returns 1 if an allocation of `size` bytes, for `block` or a new one, must fail. */
 static int is_refused(void *block, size_t size) {
     if (state == REFUSES_NONE)
         return 0;
@@ -133,7 +132,7 @@ __attribute__((constructor)) static void begin(void) {
     state = COPIES;
 }
 
-/* The program has ended: what the C library does then is not tried. */
+/* Stops the copying at the end of the program, before the C library's own work. */
 __attribute__((destructor)) static void end(void) {
     state = REFUSES_NONE;
 }

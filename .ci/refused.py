@@ -19,8 +19,8 @@ At the end of each row the program asks for `MARK` bytes, and then makes the cal
 allocate. If that allocation or all from it on fail, the row must hold.
 
 Some rows are strings of each kind whose values have every length up to 300. A call over either
-buffer must ask for exactly the bytes of such a value, with the closing zero of a C string. For these
-rows there are no copies in which all later allocations fail.
+buffer must ask for exactly the bytes of such a value, with the closing zero of a C string. For
+these rows there are no copies in which all later allocations fail.
 
 Last, each build runs without a failure on more rows, all of which must hold. These have texts with
 parts of every length below 512 and of some drawn lengths, and values that end in every number of
@@ -221,7 +221,7 @@ def sized(draw):
 
 
 def refused_call(printed):
-    """Returns the call of the library whose allocation failed in a copy, as it prints, or `None`."""
+    """Returns the call of the library that a copy prints as failed, or `None`."""
     match = REFUSED.fullmatch(printed.partition(b"\n")[0].decode())
     return match and match[1]
 

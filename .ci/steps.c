@@ -1,7 +1,8 @@
 /* Runs a program instruction by instruction, and counts them: steps FILE PROGRAM [WORD]..
  *
- * The program has the standard streams of this process, and its status is the answer. The number is
- * written to FILE. If the variable OWN is set, instructions of shared libraries are not counted. */
+ * The program has the standard streams of this process. This process ends with its status, and
+ * writes the number to FILE. If the variable OWN is set, instructions of shared libraries are not
+ * counted. */
 #include <signal.h>
 #include <stddef.h>
 #include <stdio.h>
@@ -11,10 +12,10 @@
 #include <sys/wait.h>
 #include <unistd.h>
 
-/* Shared libraries lie from here on, and the program below, wherever Linux puts them. */
+/* An address between the program and the shared libraries, which Linux always puts above it. */
 #define LIBRARIES 0x680000000000UL
 
-/* Whether the next instruction of the process is one of the program itself. */
+/* Returns whether the next instruction of the process is one of the program itself. */
 static int is_own(pid_t child) {
     const long at = ptrace(PTRACE_PEEKUSER, child, (void *)offsetof(struct user, regs.rip), NULL);
     return (unsigned long)at < LIBRARIES;

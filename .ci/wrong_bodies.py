@@ -1,29 +1,31 @@
 #!/usr/bin/env python3
-"""Tries the wrong bodies: for each, the check must report an open goal of the function it changes.
+"""Checks the wrong bodies: for each, the checker must report an open goal of the changed function.
 
     .ci/wrong_bodies.py [CRATE ..]
-    .ci/wrong_bodies.py --read [CRATE ..]     reads them, and tries none
-    .ci/wrong_bodies.py --follow LOG          tries all, beside the `rt ci` that writes this log
+    .ci/wrong_bodies.py --read [CRATE ..]     reads them, and checks none
+    .ci/wrong_bodies.py --follow LOG          checks all, beside the `rt ci` that writes this log
 
-At the top of the repository, after `rt ci`, over the libraries that it built; of all crates where
-none is named. With `--follow` the bodies of a crate are tried as soon as the log says that the
-crates below it are proved, over copies of their libraries, and at the least priority: on processors
-that `rt ci` and what comes after it leave idle.
+Runs at the top of the repository, after `rt ci`, over the libraries that it built. If no crate is
+named, the bodies of all crates are checked. With `--follow` the bodies of a crate are checked as
+soon as the log says that the crates below it are proved, over copies of their libraries. They then
+have the lowest priority, for processors that `rt ci` and the stages after it leave idle.
 
 A wrong body is a file `crates/CRATE/wrong/NAME.edit` of lines `file:`, `old:` and `new:`, as in
-`must-fail/`. Each is read before any is tried: where an old text does not occur exactly once in its
+`must-fail/`. All are read before any is checked. If an old text does not occur exactly once in its
 file, the script names every such edit and stops.
 
-As many as fit, one a function, are put into a copy of their crate, and the crate is checked once
-for all of them. One that this check does not report is checked with those of the next round, and
-then alone. It counts as refused only where a goal of its own function is open: a proof that merely
-names what the edit took away shows nothing of the contract. A function that no edit changes is not
-proved again: it has neither body nor proof in the copy, and those that call it go by its contract.
-The copy of a program has no `main`, so it is a library, which is not linked; none changes a `main`.
+As many as fit, one in each function, are put into a copy of their crate, and the crate is checked
+once for all of them. One that this check does not report is checked with those of the next round,
+and then alone. It counts as rejected only if a goal of its own function is open. An error that a
+proof names something that the edit removed does not count, since it does not test the contract.
+
+A function that no edit changes is not proved again. It has neither body nor proof in the copy, and
+its callers rely on its contract. The copy of a program has no `main`, so it is a library, which is
+not linked. No edit may change a `main`.
 
 The edits in `.ci/harmless/`, named by crate, do not change what their function does, so they must
-not be refused. They are tried in the same way, are counted apart, and show that this script can
-fail.
+not be rejected. They are checked in the same way and counted separately. They show that this script
+can fail.
 """
 import concurrent.futures
 import dataclasses
@@ -41,7 +43,7 @@ import time
 
 import libraries
 
-# The processor time that a check may take. Its time on the clock depends on other work.
+# The limit of the processor time of a check, in seconds. Its elapsed time depends on other work.
 SECONDS = 1800
 HARMLESS = pathlib.Path(".ci/harmless")
 
@@ -52,7 +54,7 @@ GHOST = re.compile(r"\s*ghost (?P<name>\w+) ")
 STATUS = re.compile(r"(?:fn|impl) (\S+): (.*)")
 ERROR = re.compile(r"(?:\./)?(proofs|src)/(\S+?):(\d+):\d+: error: (.*)")
 PLACE = re.compile(r"\bsrc/(\S+?\.rt):(\d+):\d+")
-# The checker's note on a goal that is not answered in proofs/ and that its search did not prove.
+# The checker's note on a goal that has no proof in proofs/ and that its search did not prove.
 NOTE = re.compile(r"note: src/(\S+?):(\d+):\d+: it is not proved that (.*)")
 OPEN = re.compile(r"no proof: .*?(`search` did not prove .*)")
 # The line of `rt ci` on a crate that is proved, in this run or in an earlier one, and the line that
@@ -69,7 +71,7 @@ use Rattle.{crate}.proofs.{module}.Statement.{{statement}}
 pub {name}_spec : {{M : Type 1}} → statement M
 {name}_spec = left_out
 """
-# Its error of a proof that names something the edit took away, or that answers a goal which the
+# The checker's error if a proof names something that the edit removed, or proves a goal that the
 # edit made trivially true.
 MISSING = re.compile(
     r"has no field|is not in scope|has no `|was not admitted|`Unit \{0\}` is a declared record"
@@ -77,13 +79,14 @@ MISSING = re.compile(
 
 
 def words_of(text, params):
-    """The words of a type or trait in the checker's names: `From<&TokenTree>` is FromRefTokenTree."""
+    """Returns the checker's name for a type or trait, e.g. FromRefTokenTree for
+    `From<&TokenTree>`."""
     tokens = [it for it in re.findall(r"&|\w+", text) if it not in params]
     return "".join("Ref" if it == "&" else it[0].upper() + it[1:] for it in tokens) or "Any"
 
 
 def segment_of(header):
-    """The name by which the checker calls an impl, as `LiteralFromBoolLit` or `IntegerLit+ref+str`."""
+    """Returns the checker's name for an impl, e.g. `LiteralFromBoolLit` or `IntegerLit+ref+str`."""
     rest, params = re.sub(r"'\w+,? ?", "", header.removeprefix("impl")), []
     if rest.startswith("<"):
         depth, end = 0, 0
@@ -103,13 +106,14 @@ def segment_of(header):
 
 
 def is_empty(line):
-    """Returns whether the item on this line has an empty body, as `impl Error for E {}`."""
+    """Returns whether the item on this line has an empty body, e.g. `impl Error for E {}`."""
     return line.rstrip().endswith("{}")
 
 
 def owner_at(text, offset):
-    """The impl or trait around this place of a source file, and the function, constant or ghost
-    member that contains it, or that its attribute is of, each None where there is none."""
+    """Returns the impl or trait around a place of a source file, and the function, constant or
+    ghost member that contains the place or has the attribute there. Each is `None` if there is
+    none."""
     end = text.find("\n", offset)
     while text[text.rfind("\n", 0, end) + 1 : end].lstrip().startswith("#["):
         end = text.find("\n", end + 1)
@@ -130,8 +134,8 @@ def owner_at(text, offset):
 
 
 def functions_of(file, lines):
-    """The functions of a source file, but for those that a trait declares: the path of each, and the
-    number of its first line."""
+    """Yields the path of each function of a source file, and the number of its first line. Leaves
+    out the functions that a trait declares."""
     around, is_trait = None, False
     for number, line in enumerate(lines):
         if line.startswith("impl"):
@@ -145,8 +149,8 @@ def functions_of(file, lines):
 
 
 def body_of(lines, start):
-    """The first line of the body of the function that begins at this line, and the line after the
-    last, in the layout of `rt fmt`; None of a body without lines."""
+    """Returns the numbers of the first line of the body of the function at line `start` and of the
+    line after the body, in the layout of `rt fmt`. Returns `None` if the body has no lines."""
     indent = FUNCTION.match(lines[start])["indent"]
     for number in range(start, len(lines)):
         line = lines[number].rstrip("\n")
@@ -157,7 +161,7 @@ def body_of(lines, start):
 
 
 def without_main(text):
-    """The text of a program's root file without its `main`, with as many lines."""
+    """Returns the text of a program's root file with blank lines in place of its `main`."""
     lines = text.splitlines(keepends=True)
     start = next(number for path, number in functions_of("main.rt", lines) if path == "main")
     end = body_of(lines, start)[1] + 1
@@ -166,15 +170,15 @@ def without_main(text):
 
 
 def path_of(file, *names):
-    """The checker's path of an item in `src/FILE`."""
+    """Returns the checker's path of an item in `src/FILE`."""
     parts = [] if file in ("lib.rt", "main.rt") else file.removesuffix(".rt").split("/")
     return "::".join([*parts, *(it for it in names if it)])
 
 
 def owners_of(file, text, offset):
-    """The paths of the functions that a change at this place touches: for a constant those that use
-    it, in its impl if it is in one. A path that ends in `::` is that of an impl, and covers all that
-    is in it."""
+    """Returns the paths of the functions that a change at a place touches. For a constant these are
+    the functions that use it, only those of its impl if it is in one. A path that ends in `::` is
+    that of an impl, and includes all its functions."""
     around, inside = owner_at(text, offset)
     kind, name = inside or (None, None)
     if kind == "fn":
@@ -208,8 +212,8 @@ EXAMPLE_PATHS = ["example::free", "example::TokensIterator::next", "example::las
 
 
 def faults_of_names():
-    """Yields the faults of the paths that this script gives the example's functions: all of them
-    listed, and that around each body."""
+    """Yields a fault if this script has other paths for the functions of the example, or for those
+    around its bodies."""
     found = [path for path, _ in functions_of("example.rt", EXAMPLE.splitlines())]
     places = [it.start() for it in re.finditer("body", EXAMPLE)]
     owners = [owners_of("example.rt", EXAMPLE, it) for it in places]
@@ -219,8 +223,8 @@ def faults_of_names():
 
 @dataclasses.dataclass
 class WrongBody:
-    """An edit of a crate: its name, the lines that it changes, what it touches, and whether it is to
-    be refused. A change is a file, the first line, the line after the last, and the new lines."""
+    """An edit of a crate: its name, its changes, the functions that it touches, and whether it must
+    be rejected. A change is a file, the first line, the line after the last, and the new lines."""
 
     name: str
     changes: list
@@ -228,11 +232,11 @@ class WrongBody:
     is_wrong: bool = True
 
     def touches(self, path):
-        """Returns whether it touches the function of this path."""
+        """Returns whether the edit touches the function at `path`."""
         return any(it == path or it.endswith("::") and path.startswith(it) for it in self.owners)
 
     def clashes(self, other):
-        """Returns whether both touch a function, or change a line."""
+        """Returns whether both edits touch the same function or change the same line."""
         owners = ((a, b) for a in self.owners for b in other.owners)
         changes = ((a, b) for a in self.changes for b in other.changes)
         return any(
@@ -242,18 +246,19 @@ class WrongBody:
 
 
 def overlap(start, end, other_start, other_end):
-    """Returns whether two ranges share a line. An empty one has the line before which it adds."""
+    """Returns whether two ranges share a line. An empty range counts as the line after it."""
     least_end = min(max(end, start + 1), max(other_end, other_start + 1))
     return max(start, other_start) < least_end
 
 
 def same(old, new):
-    """Returns whether two texts differ in blanks alone, by which an edit tells old texts apart."""
+    """Returns whether two texts differ only in white space, which an edit may change to make its
+    old text unique."""
     return "".join(old.split()) == "".join(new.split())
 
 
 def changes_of(originals, texts):
-    """The lines that differ in more than blanks, file by file."""
+    """Returns the changes of all files, without those of white space only."""
     changes = []
     for file, text in texts.items():
         if text == originals[file]:
@@ -267,7 +272,7 @@ def changes_of(originals, texts):
 
 
 def texts_with(originals, bodies):
-    """The texts of the files with all these edits in them, of which no two clash."""
+    """Returns the texts of the files with all these edits, which must not clash."""
     lines = {file: text.splitlines(keepends=True) for file, text in originals.items()}
     changes = [it for body in bodies for it in body.changes]
     for file, start, end, new in sorted(changes, key=lambda it: it[1], reverse=True):
@@ -276,11 +281,11 @@ def texts_with(originals, bodies):
 
 
 class Unreadable(Exception):
-    """An edit that says nothing of the crate as it is."""
+    """An edit that does not fit the sources of its crate."""
 
 
 def read_edit(path, originals, is_wrong=True):
-    """The wrong body of a file."""
+    """Reads the wrong body in a file."""
     owners, file, old = set(), None, None
     texts = dict(originals)
     for line in path.read_text(encoding="utf-8").splitlines():
@@ -322,24 +327,25 @@ class Crate(libraries.Crate):
                 self.unreadable.append(str(fault))
 
     def length(self):
-        """About how long a check of it takes, in lines of code and proofs."""
+        """Returns the number of lines of code and proofs, an estimate of the time of a check."""
         texts = [*self.originals.values()]
         texts += (it.read_text() for it in self.folder.glob("proofs/**/*.antt"))
         return sum(len(it.splitlines()) for it in texts)
 
     def count(self):
-        """Returns the number of its bodies, in words."""
+        """Returns a text with the numbers of its wrong and harmless bodies."""
         harmless = sum(not it.is_wrong for it in self.bodies)
         also = f" and {harmless} harmless" if harmless else ""
         return f"{len(self.bodies) - harmless} wrong bodies{also}"
 
     def command(self, crates):
-        """The words of a check of the crate's copy."""
+        """Returns the command that checks the copy of the crate."""
         return [*libraries.words_of("check", self, crates, LIBRARY), "--jobs", "1"]
 
 
 def messages_of(output):
-    """The lines of a check, each with the indented lines below it, which continue a long message."""
+    """Returns the lines of a check. Each includes the indented lines below it, which continue a
+    long message."""
     messages = []
     for line in output.rstrip("\n").split("\n"):
         if line.startswith("  ") and messages:
@@ -350,11 +356,11 @@ def messages_of(output):
 
 
 class Answer:
-    """The result of a check: which functions are proved, and of which a goal is open."""
+    """The result of a check: the functions that are proved, and those with an open goal."""
 
     def __init__(self, crate, texts, output):
         lines = messages_of(output)
-        # (the last line counts the functions that were checked)
+        # The last line of a complete check has the number of the functions that were checked.
         self.is_verdict = lines[-1].startswith("only=")
         self.lines, self.goals, self.stated, self.proved = lines, {}, set(), set()
         for line in lines:
@@ -373,7 +379,7 @@ class Answer:
                     self.goals.setdefault(path, found[3])
 
     def paths_at(self, crate, texts, part, file, line):
-        """The paths of the functions that an error at this place speaks of."""
+        """Returns the paths of the functions that an error at a place is about."""
         if part == "proofs":
             return {"::".join(file.split("/")[:-1])}
         path = PROGRAM if PROGRAM in texts and f"src/{file}" == LIBRARY else f"src/{file}"
@@ -382,7 +388,7 @@ class Answer:
         return owners_of(file, text, offset)
 
     def goal_of(self, body):
-        """A goal of what the wrong body touches that is open, with its function."""
+        """Returns an open goal of a function that `body` touches, with the path of the function."""
         for path, goal in self.goals.items():
             if body.touches(path) and path not in self.proved:
                 return f"{path}: {goal}"
@@ -391,7 +397,7 @@ class Answer:
 
 @dataclasses.dataclass
 class Outcome:
-    """The result of a body: whether it is wrong, and whether it was answered as it has to be."""
+    """The result of a body: whether it is wrong, whether it passed, and the line to print."""
 
     is_wrong: bool
     holds: bool
@@ -399,7 +405,7 @@ class Outcome:
 
 
 class Trial:
-    """The trial of the wrong bodies of one crate."""
+    """The checks of the wrong bodies of one crate."""
 
     def __init__(self, crate, crates, room):
         self.crate, self.copy = crate, pathlib.Path(room, crate.name)
@@ -411,14 +417,14 @@ class Trial:
         if kept.exists():
             shutil.copytree(kept, work)
         if kept.exists() or len(self.next_round(crate.bodies)) < len(crate.bodies):
-            # (what a lone check keeps, nothing takes: it only costs)
+            # A single check does not keep its results, since no later check would use them.
             work.mkdir(exist_ok=True)
             self.words += ["--incremental", str(work)]
         self.report, self.checks = [], 0
 
     def leave_out(self, bodies, texts):
-        """Writes these texts and the proofs into the copy. A function that none of the bodies touches
-        has neither body nor proof there."""
+        """Writes `texts` and the proofs into the copy, without the bodies and the proofs of the
+        functions that none of `bodies` touches."""
         shutil.rmtree(self.copy / "proofs", ignore_errors=True)
         if (self.crate.folder / "proofs").exists():
             shutil.copytree(self.crate.folder / "proofs", self.copy / "proofs")
@@ -438,7 +444,7 @@ class Trial:
                 (self.copy / file).write_text("".join(lines))
 
     def leave_out_proof(self, path):
-        """Leaves out the proof of the function of this path."""
+        """Replaces the proof of the function at `path` in the copy."""
         *_, name = parts = path.split("::")
         folder = self.copy.joinpath("proofs", *parts)
         shutil.rmtree(folder, ignore_errors=True)
@@ -447,7 +453,7 @@ class Trial:
         (folder / "Proof.antt").write_text(LEFT_OUT.format(**names))
 
     def check(self, bodies):
-        """Checks what these wrong bodies touch, in the copy with them."""
+        """Checks the functions that these bodies touch, in the copy with the bodies."""
         texts = texts_with(self.crate.originals, bodies)
         self.leave_out(bodies, texts)
         how = {"stdout": subprocess.PIPE, "stderr": subprocess.STDOUT, "text": True}
@@ -464,7 +470,7 @@ class Trial:
         return Answer(self.crate, texts, ran.stdout)
 
     def settle(self, body, goal, how):
-        """Notes what came of a wrong body."""
+        """Adds the result of a body to the report: `goal` is its open goal, or `None`."""
         holds = (goal is not None) == body.is_wrong
         if body.is_wrong:
             said = f"refused ({how}): {goal[:150]}" if goal else f"NOT REFUSED ({how})"
@@ -474,12 +480,12 @@ class Trial:
         self.note(body, holds, said)
 
     def note(self, body, holds, said):
-        """Notes whether a body was answered as it has to be, and what is to be printed of it."""
+        """Adds to the report whether a body passed, and its line."""
         line = f"{self.crate.name}/{body.name}: {said}"
         self.report.append(Outcome(body.is_wrong, holds, line))
 
     def alone(self, body):
-        """Tries a wrong body by itself."""
+        """Checks a body by itself."""
         answer = self.check([body])
         if answer.is_verdict:
             return self.settle(body, answer.goal_of(body), "alone")
@@ -487,7 +493,7 @@ class Trial:
         self.note(body, False, f"CANNOT BE CHECKED: {said}")
 
     def next_round(self, left):
-        """As many of these as fit beside each other."""
+        """Returns as many of the bodies `left` as do not clash with each other."""
         group = []
         for body in left:
             if not any(body.clashes(it) for it in group):
@@ -495,7 +501,8 @@ class Trial:
         return group
 
     def unreadable(self, answer, group):
-        """Those of the group whose text the checker cannot read, by the places that it names."""
+        """Returns the bodies of the group whose text the checker cannot read, by the places in its
+        messages."""
         named, texts = set(), texts_with(self.crate.originals, group)
         for line in answer.lines:
             for file, number in PLACE.findall(line):
@@ -503,7 +510,7 @@ class Trial:
         return [it for it in group if it.owners & named] or group
 
     def run(self):
-        """Tries all, and returns what came of each."""
+        """Checks all bodies, and returns their outcomes."""
         left, tried_once, single = self.crate.bodies, [], []
         while left:
             group = self.next_round(left)
@@ -519,7 +526,7 @@ class Trial:
                 if goal or not body.is_wrong and answer.stated.issuperset(body.owners):
                     self.settle(body, goal, f"with {len(group) - 1} others")
                 elif body.is_wrong and body not in tried_once:
-                    # (the goal may rest on a function that another one of the group has broken)
+                    # The goal may depend on a function that another body of the group has broken.
                     tried_once.append(body)
                     left = [*left, body]
                 else:
@@ -531,7 +538,7 @@ class Trial:
 
 
 def unreadable(tried, crates):
-    """Returns the faults of the edits, before any is tried."""
+    """Returns the faults of the edits that are found without a check."""
     faults = [it for crate in tried for it in crate.unreadable]
     edits = [*pathlib.Path("crates").glob("*/wrong/*"), *HARMLESS.glob("*")]
     for path in sorted(edits):
@@ -544,19 +551,19 @@ def unreadable(tried, crates):
 
 
 class Proofs:
-    """The crates that an `rt ci` beside this script has proved, by the log that it writes."""
+    """The crates that an `rt ci` beside this script has proved, according to its log."""
 
     def __init__(self, log, crates, room):
         self.log, self.crates, self.room = pathlib.Path(log), crates, pathlib.Path(room)
         self.proved, self.changed = set(), threading.Condition()
-        # (rt ci may put back the libraries that it found, so these are copies)
+        # The libraries are copied, since rt ci may restore the ones that it found.
         libraries.library_folder = lambda name: self.room / name
         self.following = threading.Thread(target=self.follow, daemon=True)
         self.following.start()
 
     def follow(self):
-        """Copies the library of each crate once the log says that it is proved, and those that are
-        left at the end of the log."""
+        """Copies the library of each crate once the log says that it is proved, and the remaining
+        ones at the end of the log."""
         while len(self.proved) < len(self.crates):
             log = self.log.read_text(errors="replace") if self.log.exists() else ""
             is_over = log.endswith(ENDED)
@@ -568,7 +575,7 @@ class Proofs:
             time.sleep(1)
 
     def is_copied(self, name):
-        """Copies the library of a crate. Whether all of it was there."""
+        """Copies the library of a crate. Returns whether it was complete."""
         try:
             shutil.copytree(libraries.TOP / "crates" / name / "out/rlib", self.room / name)
         except OSError:
@@ -577,7 +584,8 @@ class Proofs:
         return True
 
     def next_of(self, waiting):
-        """Takes the first of these crates for which all below it are proved, and waits for one."""
+        """Removes and returns the first of these crates for which all crates below it are proved.
+        Waits until there is one. Returns `None` if `waiting` is empty."""
         with self.changed:
             while waiting:
                 for crate in waiting:
@@ -591,7 +599,7 @@ class Proofs:
 
 
 def try_in_turn(waiting, next_of, crates, room):
-    """Tries the bodies of one crate after the other, and returns what came of each."""
+    """Checks the bodies of one crate after the other, and returns their outcomes."""
     outcomes = []
     while (crate := next_of(waiting)) is not None:
         report = Trial(crate, crates, room).run()
@@ -601,8 +609,8 @@ def try_in_turn(waiting, next_of, crates, room):
 
 
 def try_all(tried, crates, log):
-    """Tries the bodies of these crates, and returns what came of each."""
-    # Those that take long come first.
+    """Checks the bodies of these crates, and returns their outcomes."""
+    # The crates that take longest come first.
     waiting = sorted(tried, key=lambda it: -it.length())
     with tempfile.TemporaryDirectory(prefix="wrong-bodies-") as room:
         if log:

@@ -1,9 +1,9 @@
-/* Times litrs_parse and litrs_parse_into over texts of several shapes, with -DUPSTREAM beside the same calls over the
- * Rust crate litrs. bench/run_c builds and runs it.
+/* Times litrs_parse and litrs_parse_into over texts of several shapes. With -DUPSTREAM the same
+ * calls over the Rust crate litrs are timed beside them. bench/run_c builds and runs this.
  *
- * Each shape has 2,000 texts, the same in each run. A round goes over all of them, the calls take turns, and the least
- * of 1,000 rounds counts, in nanoseconds a text. With UPSTREAM the answers of both are compared first: the status, the
- * literal, and the places of the refusal. */
+ * Each shape has 2,000 texts, the same in each run. A round goes over all of them, and the calls
+ * take turns. The least of 1,000 rounds counts, in nanoseconds per text. With UPSTREAM the results
+ * of both are compared first: the status, the literal, and the places of the error. */
 #define _POSIX_C_SOURCE 199309L
 #include "litrs.h"
 
@@ -30,7 +30,8 @@ static unsigned random_below(unsigned limit) {
     return (unsigned)(state >> 33) % limit;
 }
 
-/* A text by its form: %d some digits, %x hexadecimal ones, %a some letters, %b a letter, %t a type. */
+/* Writes a text of a form: %d some digits, %x hexadecimal ones, %a some letters, %b a letter, %t a
+ * type. */
 static size_t put(uint8_t *at, const char *form) {
     static const char *const types[] = {"u8", "i16", "u32", "i64", "usize", "u128"};
     uint8_t *end = at;
@@ -58,7 +59,7 @@ static size_t put(uint8_t *at, const char *form) {
 
 typedef struct shape {
     const char *name;
-    const char *forms[2]; /* in turn; the second may be left out */
+    const char *forms[2]; /* used in turn; the second may be left out */
 } shape;
 
 static const shape shapes[] = {
@@ -94,7 +95,7 @@ static double now(void) {
     return (double)at.tv_sec * 1e9 + (double)at.tv_nsec;
 }
 
-/* Calls one of the four over all texts, and adds up parts of the answers. */
+/* Calls one of the four functions on all texts, and returns a sum of parts of the results. */
 static uint64_t call_all(int call) {
     litrs_answer answer;
     uint64_t sum = 0;
@@ -128,7 +129,7 @@ static void compare(const char *name) {
         memset(&other, 0, sizeof other);
         litrs_parse_into(text, len, &ours);
         upstream_parse_into(text, len, &other);
-        /* What is private there. */
+        /* These fields are private there. */
         ours.refusal.kind = other.refusal.kind;
         ours.refusal.is_final = other.refusal.is_final;
         ours.refusal.is_open = other.refusal.is_open;

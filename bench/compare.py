@@ -1,10 +1,11 @@
 #!/usr/bin/env python3
-"""Times the shapes of the benchmark in this tree beside an earlier state of the repository: bench/compare.py COMMIT
+"""Times the shapes of the benchmark in this tree and in an earlier state: bench/compare.py COMMIT
 
-Both libraries are built by library.py, and each is linked into six programs, with the functions in another order in
-each. A figure is the median over the six of the least time of the rounds, in nanoseconds a text.
+Both libraries are built by library.py. Each is linked into six programs, with another order of the
+functions in each. A figure is the median of six times, in nanoseconds per text. Each of the six is
+the least time of the rounds of one program.
 
-What is built is kept in the folder that LITRS_BENCH_WORK names, or in ~/.cache/litrs_bench.
+The builds are kept in the folder that LITRS_BENCH_WORK names, or in ~/.cache/litrs_bench.
 """
 import os
 import pathlib
@@ -18,12 +19,12 @@ CACHE = os.environ.get("XDG_CACHE_HOME", pathlib.Path.home() / ".cache")
 WORK = pathlib.Path(os.environ.get("LITRS_BENCH_WORK", f"{CACHE}/litrs_bench")).resolve()
 ORDERS = range(1, 7)
 CALLS = ["parse", "parse and value", "parse a String"]
-# The columns of a line of the program at which names end, and figures begin after the bytes.
+# The columns in a line of the program: the end of the name, and the start of the figures.
 NAMES, FIGURES = 43, 52
 
 
 def tree_of(commit):
-    """The files of the commit, in a folder of their own."""
+    """Returns a folder with the files of the commit."""
     folder = WORK / "trees" / commit
     if not folder.exists():
         folder.mkdir(parents=True)
@@ -33,8 +34,9 @@ def tree_of(commit):
 
 
 def link(out, order):
-    """The program of this tree over the library in `out`, with the functions in this order. It has the
-    shapes without tokens and values, as an earlier state may lack their crates."""
+    """Links the program of this tree over the library in `out`, with the functions in this order,
+    and returns its path. The program leaves out tokens and values, since an earlier state may lack
+    their crates."""
     program = out / f"program.{order}"
     words = ["rustc", "-O", "--edition", "2024", "--cfg", "shapes"]
     words += ["--check-cfg", "cfg(upstream, check_suffix, rustc_lexer, shapes)"]
@@ -48,7 +50,7 @@ def link(out, order):
 
 
 def times_of(program):
-    """The nanoseconds of each call over each shape, by the names of both."""
+    """Returns the nanoseconds of each call over each shape, by the names of both."""
     times = {}
     for line in run([program, "shapes"]).splitlines():
         name, figures = line[:NAMES].rstrip(), line[FIGURES:].split()

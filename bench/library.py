@@ -1,9 +1,9 @@
 #!/usr/bin/env python3
-"""Proves and builds the static library of the benchmark, by what was proved before: bench/library.py OUT
+"""Proves and builds the static library of the benchmark: bench/library.py OUT
 
-Some processors of Intel do not keep a jump in decoded form that crosses a 32-byte boundary or ends at one, so that
-one piece of code takes up to a quarter longer by where it lies. So the library is compiled without such jumps, by the
-toolchain's own compiler with one flag more.
+The results of earlier proofs in OUT are used. Some processors of Intel do not keep a jump in
+decoded form if it crosses or ends at a 32-byte boundary. Such code takes up to a quarter longer. So
+the library is compiled without such jumps, by the compiler of the toolchain with one more flag.
 """
 import os
 import pathlib
@@ -20,7 +20,7 @@ NAME = "litrs_bench"
 
 
 def run(words, **more):
-    """Returns what the command prints. Stops with that if it fails."""
+    """Returns the output of a command. Stops with the output if the command fails."""
     words = [str(it) for it in words]
     done = subprocess.run(words, text=True, capture_output=True, **more)
     if done.returncode:
@@ -29,7 +29,8 @@ def run(words, **more):
 
 
 def toolchain(folder):
-    """Puts the kit's toolchain into the folder, with a compiler that keeps jumps off the boundaries."""
+    """Links the kit's toolchain into the folder, with a compiler that keeps jumps off the
+    boundaries. Returns the folder."""
     shutil.rmtree(folder, ignore_errors=True)
     (folder / "bin").mkdir(parents=True)
     (folder / "lib").symlink_to(KIT / "toolchain/lib")
@@ -43,7 +44,8 @@ def toolchain(folder):
 
 
 def in_order(name, crates):
-    """Returns the crates of the repository below this one, each after those below it, and it."""
+    """Returns the names of this crate and the crates of the repository below it. Each comes after
+    those below it."""
     found = []
     for dep in crates[name].deps:
         found += in_order(dep, crates) if dep in crates else []
@@ -51,7 +53,7 @@ def in_order(name, crates):
 
 
 def words_of(crate, crates, out):
-    """The words of a build of the crate in its folder, over the libraries in `out`."""
+    """Returns the command that builds the crate in its folder, over the libraries in `out`."""
     words = [f"{KIT}/bin/rattle", "build", "--crate-name", crate.name, "src/lib.rt"]
     for dep in ["std", *crate.deps]:
         top = out / dep if dep in crates else f"{KIT}/rlibs"
@@ -65,7 +67,7 @@ def words_of(crate, crates, out):
 
 
 def build(tree, out):
-    """Builds OUT/litrs_bench/liblitrs_bench.a of the tree, after the libraries below it."""
+    """Builds `out`/litrs_bench/liblitrs_bench.a from the tree, after the libraries below it."""
     exports = (tree / f"bench/{NAME}.rt.in").read_text()
     deps = sorted(set(re.findall(r"^use (litrs\w*)::", exports, re.MULTILINE)))
     crates = crates_of(tree) | {NAME: Crate(NAME, [], deps)}

@@ -2,7 +2,7 @@
 """Draws the table of shapes of bench/figures.txt: both crates by shape, on a logarithmic axis.
 
     bench/picture.py            draws docs/speed.svg, of the shapes below, and bench/shapes.svg
-    bench/picture.py --check    fails where one of them is not what the table gives
+    bench/picture.py --check    fails if one of them differs from the picture of the table
 """
 import dataclasses
 import html
@@ -14,7 +14,7 @@ import sys
 
 TOP = pathlib.Path(__file__).resolve().parent.parent
 TABLE = TOP / "bench/figures.txt"
-# The shapes of the first page.
+# The shapes of the picture in docs/.
 SHOWN = {
     "Bool": ["bool"],
     "Integer": [
@@ -51,8 +51,8 @@ OURS, UPSTREAM, AXIS, INK = "#1f6f50", "#b5651d", "#d8d8d8", "#222222"
 
 @dataclasses.dataclass
 class Row:
-    """A shape: the nanoseconds of a `parse` of one text, ours and upstream's, and their ratio as
-    the table has it, one number or that of each of two runs."""
+    """A shape: the nanoseconds of a `parse` of one text, ours and upstream's, and their ratio in
+    the table. The ratio is one number, or the numbers of two runs."""
 
     kind: str
     shape: str
@@ -64,7 +64,7 @@ class Row:
         return self.shape in SHOWN.get(self.kind, [])
 
     def is_sound(self):
-        """Returns whether the times have the ratio beside them."""
+        """Returns whether the times have the ratio of the row."""
         ends = [float(it) for it in self.ratio.split("-")]
         return ends[0] - 0.02 <= self.ours / self.upstream <= ends[-1] + 0.02
 
@@ -75,8 +75,8 @@ class Row:
 
 
 def row_of(line, head):
-    """The row of a line below this head. A kind and a shape begin below their names, and a number
-    ends below the end of its name."""
+    """Returns the row of a line below `head`. A kind and a shape begin below their names, and a
+    number ends below the end of its name."""
     ends = [found.end() for found in re.finditer(r"\S+", head)]
     start_shape, end_bytes = head.index("shape"), ends[2]
     ours, upstream, ratio = (line[a:b].strip() for a, b in itertools.pairwise(ends[2:6]))
@@ -85,7 +85,7 @@ def row_of(line, head):
 
 
 def read_table():
-    """The machine and the rows of the table of shapes."""
+    """Returns the machine and the rows of the table of shapes."""
     page = TABLE.read_text()
     lines = iter(page.splitlines())
     head = next(line for line in lines if line.split()[:3] == ["kind", "shape", "bytes"])
@@ -94,7 +94,7 @@ def read_table():
 
 
 def fault_of(rows):
-    """Returns the fault of the rows, None if there is none."""
+    """Returns the fault of the rows, or `None` if they are correct."""
     if wrong := [it.name() for it in rows if not it.is_sound()]:
         return f"the times do not have the ratio beside them: {wrong}"
     wanted = {(kind, shape) for kind, shapes in SHOWN.items() for shape in shapes}
@@ -104,7 +104,7 @@ def fault_of(rows):
 
 
 def across(time):
-    """Returns the place of a time, from the left."""
+    """Returns the distance of a time from the left edge."""
     return LEFT + WIDTH * math.log10(time) / (len(AXIS_NAMES) - 1)
 
 
@@ -114,7 +114,7 @@ def text(x, y, words, anchor="start", colour=INK, size=11):
 
 
 def head_of(machine):
-    """The title, and what the marks mean."""
+    """Yields the title and the legend."""
     yield text(14, 22, "Time of Literal::parse, one text a call", size=15)
     yield text(14, 40, f"{machine}. The axis is logarithmic.")
     yield text(LEFT, 58, "● this crate", colour=OURS)
@@ -123,7 +123,7 @@ def head_of(machine):
 
 
 def axis(bottom):
-    """The lines of the powers of ten, with their names above."""
+    """Yields the lines at the powers of ten, with their names above them."""
     for power, name in enumerate(AXIS_NAMES):
         x = across(10**power)
         yield f'<line x1="{x:.0f}" y1="{TOP_EDGE - 4}" x2="{x:.0f}" y2="{bottom}" stroke="{AXIS}"/>'
@@ -131,7 +131,7 @@ def axis(bottom):
 
 
 def marks(rows):
-    """A line a shape: its name, both times, and their ratio."""
+    """Yields a line for each row: its name, both times, and their ratio."""
     for number, row in enumerate(rows):
         y = TOP_EDGE + STEP * number + 10
         ours, upstream = across(row.ours), across(row.upstream)
@@ -143,7 +143,7 @@ def marks(rows):
 
 
 def picture(machine, rows):
-    """The picture of these rows."""
+    """Returns the picture of the rows as SVG."""
     bottom = TOP_EDGE + STEP * len(rows) + 4
     size = f'width="{LEFT + WIDTH + RATIO + 14}" height="{bottom + 8}"'
     return "\n".join(

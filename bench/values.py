@@ -3,20 +3,20 @@
 
     bench/values.py [PROGRAM]
 
-PROGRAM is the program litrs_vectors, which `rt ci` leaves in crates/litrs_vectors/out/. It is given a
-table of
+PROGRAM is the program litrs_vectors, which `rt ci` leaves in crates/litrs_vectors/out/. Its input
+is a table with three parts:
 
-- numbers with and without a sign, a suffix and underscores, and other literals, each read as twelve
-  integer types, `f32`, `f64`, `bool` and `char`: with the value that rustc has for
-  `let value: TYPE = TEXT;`, or refused if rustc rejects that. Integers without a suffix as a float are
-  left out, which rustc rejects.
-- float literals as an `f64` and an `f32`, a quarter of them at or beside a point halfway between two
-  floats: with the bits that str::parse has for the text without underscores and suffix.
-- integers of all four bases, of up to 1,100 bits, with the bits that str::parse has for their digits in
-  base ten.
+- Numbers with and without a sign, a suffix and underscores, and other literals. Each is read as
+  twelve integer types, `f32`, `f64`, `bool` and `char`. The wanted value is that of
+  `let value: TYPE = TEXT;` in rustc, or an error if rustc rejects that. Integers without a suffix
+  are not read as floats, since rustc rejects them.
+- Float literals as an `f64` and an `f32`, a quarter of them at or beside a point halfway between
+  two floats. The wanted bits are those of str::parse for the text without underscores and suffix.
+- Integers of all four bases, of up to 1,100 bits. The wanted bits are those of str::parse for their
+  digits in base ten.
 
-Prints the reads that differ. Fails if others do than `-0` as an unsigned type, which rustc rejects. Run
-by hand; the gate does not need a compiler of Rust.
+Prints the reads that differ. Fails if there are others than `-0` as an unsigned type, which rustc
+rejects. It is run by hand, since the gate does not need a Rust compiler.
 """
 import fractions
 import json
@@ -32,7 +32,7 @@ TOP = pathlib.Path(__file__).resolve().parent.parent
 PROGRAM = TOP / "crates/litrs_vectors/out/litrs_vectors"
 INTEGERS = ["u8", "u16", "u32", "u64", "u128", "usize", "i8", "i16", "i32", "i64", "i128", "isize"]
 TYPES = [*INTEGERS, "f32", "f64", "bool", "char"]
-# The arguments of `println!` that write a value as the table does.
+# The arguments of `println!` that print a value in the form of the table, by type.
 PRINTS = {
     "f32": '"{:x}", value.to_bits()', "f64": '"{:x}", value.to_bits()', "char": '"{:x}", value as u32'
 }
@@ -61,19 +61,20 @@ fn main() {
 
 
 def grouped(draw, digits, share):
-    """The digits, with underscores after this share of them."""
+    """Returns the digits, with underscores after this share of them."""
     return "".join(it + "_" * (draw.random() < share and draw.choice([1, 1, 1, 2, 3])) for it in digits)
 
 
 def integer(draw, number):
-    """An integer literal without a suffix."""
+    """Returns an integer literal of `number` without a suffix."""
     front, code = draw.choice([("", "d"), ("0x", "x"), ("0x", "X"), ("0o", "o"), ("0b", "b")])
     digits = format(number, code)
     return front + (grouped(draw, digits, 0.15) if draw.random() < 0.4 else digits)
 
 
 def typed_texts(draw):
-    """Numbers around the ends of the integer and float types, small ones, and other literals."""
+    """Yields numbers around the ends of the integer and float types, small ones, and other
+    literals."""
     suffixes = [""] * 8 + [*INTEGERS, "f32", "f64", "u7", "i256"]
     numbers = [2**bits + more for bits in [7, 8, 15, 16, 31, 32, 63, 64, 127, 128] for more in [-1, 0, 1]]
     for number in 5 * numbers:
@@ -89,13 +90,13 @@ def typed_texts(draw):
 
 
 def is_left_out(text, kind):
-    """Returns whether this is an integer without a suffix, as a float."""
+    """Returns whether `text` is an integer without a suffix, and `kind` a float type."""
     return kind in ("f32", "f64") and re.fullmatch("-?(0x[0-9a-fA-F_]+|(0[ob])?[0-9_]+)", text)
 
 
 def lets(cases, skipped):
-    """The lines of a program that prints the value of each case, but of those to skip; as functions of
-    at most 50 lines."""
+    """Yields the lines of a program that prints the value of each case, except the skipped ones.
+    Its functions have at most 50 cases each."""
     for number, (text, kind) in enumerate(cases):
         if number % 50 == 0:
             yield f"fn part_{number // 50}() {{"
@@ -108,7 +109,7 @@ def lets(cases, skipped):
 
 
 def of_rustc(cases, folder):
-    """The values of the cases that rustc takes, by their numbers."""
+    """Returns the values of the cases that rustc accepts, by their numbers."""
     skipped = set()
     while True:
         lines = list(lets(cases, skipped))
@@ -131,7 +132,7 @@ def of_rustc(cases, folder):
 
 
 def typed_rows(draw, folder):
-    """Rows of typed reads."""
+    """Yields the rows of texts that are read as a type."""
     texts = list(dict.fromkeys(typed_texts(draw)))
     cases = [(text, kind) for text in texts for kind in TYPES if not is_left_out(text, kind)]
     values = of_rustc(cases, folder)
@@ -151,7 +152,7 @@ def exponent(draw, number, share):
 
 
 def plain_float(draw, share):
-    """A float of digits that are drawn."""
+    """Returns a float of drawn digits."""
     whole = grouped(draw, digits_of(draw, 1, 1, 2, 3, 5, 10, 17, 19, 20, 25, 40), share)
     fraction = grouped(draw, digits_of(draw, 1, 2, 3, 8, 16, 20, 30, 60), share)
     tens = draw.choice([range(-30, 31), range(-345, 310), range(-60, 40), range(-2000, 2000)])
@@ -160,7 +161,7 @@ def plain_float(draw, share):
 
 
 def halfway_float(draw, share):
-    """A float at or beside a point halfway between two floats."""
+    """Returns a float at or beside a point halfway between two floats."""
     real, whole, most = draw.choice([("<d", "<Q", 0x7FEF_FFFF_FFFF_FFFE), ("<f", "<I", 0x7F7F_FFFE)])
     bits = draw.choice([0, most, draw.randrange(most), draw.randrange(most >> 9)])
     ends = [struct.unpack(real, struct.pack(whole, it))[0] for it in (bits, bits + 1)]
@@ -177,7 +178,7 @@ def halfway_float(draw, share):
 
 
 def numbers(draw):
-    """Numbers, each with the text that str::parse takes for it."""
+    """Yields numbers, each with its text for str::parse."""
     for _ in range(NUMBERS):
         make = halfway_float if draw.random() < 0.25 else plain_float
         text = make(draw, draw.choice([0, 0, 0.05, 0.3]))
@@ -186,7 +187,8 @@ def numbers(draw):
     for _ in range(NUMBERS):
         bits = draw.choice([8, 53, 64, 65, 100, 128, 200, 1024, 1100])
         number = draw.randrange(2**bits)
-        # Beside a point halfway between two floats, or all ones.
+        # Half of the long numbers have one significant bit more than a float, or are next to such a
+        # number.
         unit = draw.choice([24, 53])
         if bits > unit + 1 and draw.random() < 0.5:
             number = number >> (bits - unit - 1) << (bits - unit - 1)
@@ -195,7 +197,7 @@ def numbers(draw):
 
 
 def number_rows(draw, folder):
-    """Rows of numbers as floats."""
+    """Yields the rows of numbers that are read as floats."""
     found = list(numbers(draw))
     (folder / "oracle.rs").write_text(ORACLE)
     subprocess.run(["rustc", "-O", "--edition", "2021", "oracle.rs"], cwd=folder, check=True)

@@ -1,14 +1,14 @@
 #!/usr/bin/env python3
-"""Gives literals that litrs_build has written to rustc, which has to take each with its value.
+"""Compiles literals that litrs_build writes with rustc, and compares their values.
 
     bench/written.py [FORMATTER]
 
-FORMATTER is the program uses_formatter, which `rt run` leaves in crates/uses_formatter/out/. It is
-fed chars, strings, byte strings and C strings whose characters and bytes are written by their
-numbers, and raw strings of each kind with more hashes than they need. What it prints goes into a
-Rust program that compares each literal with its value.
-The program is compiled with every warning an error, lints on text that changes direction among
-them. Run by hand; the gate does not need a compiler of Rust.
+FORMATTER is the program uses_formatter, which `rt run` leaves in crates/uses_formatter/out/. Its
+input has chars, strings, byte strings and C strings that consist of numeric escapes, and raw
+strings of each kind with more hashes than they need. A Rust program compares each literal of its
+output with its value. That program is compiled with every warning an error. This includes the
+lints on text that changes direction. It is run by hand, since the gate does not need a Rust
+compiler.
 """
 import pathlib
 import random
@@ -25,7 +25,8 @@ HASHES = 8 * "#"
 
 
 def scalars(draw):
-    """Every character below 3000, those around the ends of blocks that matter, and drawn ones."""
+    """Returns every character below U+3000, those of special blocks and at the ends of ranges, and
+    drawn ones."""
     chosen = set(range(0x3000)) | set(range(0xFE00, 0xFE10)) | set(range(0xE0000, 0xE0200))
     chosen |= {0xD7FF, 0xE000, 0xFEFF, 0xFFFE, 0xFFFF, 0x10000, 0x1F98A, 0x10FFFF}
     chosen |= {draw.randrange(0x110000) for _ in range(CHARS)}
@@ -41,7 +42,8 @@ def bytes_numbered(values):
 
 
 def samples(draw):
-    """Lines for the formatter, each with the Rust expression that compares the literal `L`."""
+    """Yields lines for the formatter, each with the Rust expression that compares the literal
+    `L`."""
     chars = scalars(draw)
     for c in chars:
         yield f"'{numbered([c])}'", f"L as u32 == {c}"

@@ -1,10 +1,10 @@
 #!/usr/bin/env python3
-"""Writes into the table of tokens what rustc reads: bench/tokens/rustc.py
+"""Writes the results of rustc into the table of tokens: bench/tokens/rustc.py
 
-The table is crates/litrs_lexer/tokens, which says what its fields are. The answers are those of the
-rustc that is found, in the editions 2015, 2018, 2021 and 2024, by `TokenStream::from_str` in a
-procedural macro, tokens.rs, whose edition is that of the crate. It is called once a row, each in a
-line of its own, so that an error is known by its line.
+The table is crates/litrs_lexer/tokens, whose head explains its fields. The results are those of the
+rustc in PATH, in the editions 2015, 2018, 2021 and 2024. The procedural macro tokens.rs gets them
+from `TokenStream::from_str`. It has the edition of the crate that calls it. That crate calls it
+once for each row, each time in a separate line, which identifies the row of an error.
 """
 import json
 import os
@@ -25,7 +25,7 @@ def bytes_of(field):
 
 
 def row_of(error):
-    """The row in whose call an error of rustc is reported."""
+    """Returns the row in whose call rustc reports an error."""
     span = error["spans"][0]
     while span.get("expansion"):
         span = span["expansion"]["span"]
@@ -33,7 +33,8 @@ def row_of(error):
 
 
 def answers(texts, edition, folder):
-    """Returns what rustc reads in each text: letters, lengths, and `error` if it reports one."""
+    """Returns the result of rustc for each text: letters and lengths, and `error` if it reports
+    one."""
     build = ["rustc", "--edition", edition, "--crate-type", "proc-macro", HERE / "tokens.rs"]
     subprocess.run([*build, "-o", folder / "libtokens.so"], check=True)
     calls = "".join(f"tokens::tokens! {{{row}}}\n" for row in range(len(texts)))
@@ -55,7 +56,8 @@ def answers(texts, edition, folder):
 
 
 def field(read):
-    """The answers by edition as one field, equal ones of neighbors joined."""
+    """Returns the results by edition as one field, in which equal ones of adjacent editions are
+    joined."""
     groups = []
     for edition, it in zip(EDITIONS, read):
         if groups and groups[-1][2] == it:
