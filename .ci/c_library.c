@@ -80,8 +80,7 @@ static void hold(bool holds, const char *what) {
     }
 }
 
-/* Prints the output of a call for which the room is long enough. Rooms of shorter lengths are tried
- * too. */
+/* Prints the whole output of a call. Stops if the output differs for rooms of other lengths. */
 static void print_written(writes *call, const uint8_t *text, size_t len, uint8_t *room) {
     litrs_written all = call(text, len, room, 0), same;
     size_t rooms[] = {all.len / 2, all.len, all.len + 3}, i, k;

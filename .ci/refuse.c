@@ -47,7 +47,7 @@ static size_t read_all(int from) {
     return size;
 }
 
-/* Copies the process. Returns 1 in the copy, and 0 in the process itself after the copy has ended. */
+/* Copies the process. Returns 1 in the copy, and 0 in the process itself after the copy's end. */
 static int is_copy(const char *how) {
     int pipes[2], status;
     char head[96];

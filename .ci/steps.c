@@ -12,7 +12,7 @@
 #include <sys/wait.h>
 #include <unistd.h>
 
-/* An address between the program and the shared libraries, which Linux always puts above it. */
+/* An address above the program and below all shared libraries, wherever Linux puts them. */
 #define LIBRARIES 0x680000000000UL
 
 /* Returns whether the next instruction of the process is one of the program itself. */

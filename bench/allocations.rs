@@ -1,4 +1,4 @@
-//! Counts the calls of the C library that allocate, which both crates end in.
+//! Counts the calls of the C library's allocator, through which both crates allocate.
 
 use crate::{Call, REFUSED, SHAPES, answer, ours};
 use std::hint::black_box;
@@ -8,7 +8,7 @@ use std::sync::atomic::{AtomicU64, Ordering};
 #[unsafe(no_mangle)]
 static LITRS_BENCH_ALLOCATIONS: AtomicU64 = AtomicU64::new(0);
 
-// The linker leads each call of the name after `__wrap_` here: `run` says so.
+// Each call of the function named after `__wrap_` comes here, by an option of the linker in `run`.
 std::arch::global_asm!(
     ".macro counted name",
     ".globl __wrap_\\name",
@@ -28,8 +28,9 @@ fn asked() -> u64 {
     LITRS_BENCH_ALLOCATIONS.load(Ordering::Relaxed)
 }
 
-/// Stops if a parse over `&str` does not make just its allocations: one for a C string, and for a quoted string or
-/// byte string with a backslash. For other literals and refused texts there is none.
+/// Stops if a parse over `&str` does not allocate as often as it should. That is once for a C
+/// string, and for a quoted string or byte string with a backslash. For other literals and for
+/// texts that are not a literal, it does not allocate.
 fn check(text: &str) {
     let before = asked();
     let refused = answer(ours::parse, text) & REFUSED != 0;
@@ -39,7 +40,7 @@ fn check(text: &str) {
     assert_eq!(made, u64::from(has_value && !refused), "allocations of {text:?}");
 }
 
-/// Returns the mean number of allocations that the call makes for these texts.
+/// Returns the mean number of allocations of `call` for `texts`.
 fn count(call: Call, texts: &[&str]) -> f64 {
     let before = asked();
     let mut sum = 0u64;
@@ -50,7 +51,8 @@ fn count(call: Call, texts: &[&str]) -> f64 {
     (asked() - before) as f64 / texts.len() as f64
 }
 
-/// Checks the allocations of each text, and prints of each shape that has any how often, over `&str`.
+/// Checks the allocations of each text over `&str`. Prints the mean number for each shape that
+/// allocates.
 pub fn main(rows: &[(&str, &str, &[&str])]) {
     println!("Allocations a text of `parse`, of the shapes that have any; of {} shapes.", SHAPES.len());
     for (kind, name, texts) in rows {

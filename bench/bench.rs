@@ -1,8 +1,8 @@
 //! Times `Literal::parse` and the values of literals over texts of several shapes.
 //!
-//! The texts are the same in each run. Each figure is the least of the rounds, in nanoseconds a text. With the
-//! configuration `upstream` the Rust crate of the same name is timed beside, called in the same way, and the
-//! answers of both are compared first.
+//! The texts are the same in each run. Each figure is the least of the rounds, in nanoseconds per
+//! text. With the configuration `upstream`, the Rust crate of the same name is timed beside this
+//! one by the same calls. The results of both are compared first.
 
 use std::hint::black_box;
 use std::time::Instant;
@@ -22,17 +22,17 @@ mod several_lines;
 #[cfg(not(shapes))]
 mod values;
 
-/// The texts of a shape, and the bytes that they have at most, together.
+/// The greatest number of texts of a shape, and of their bytes together.
 const TEXTS: usize = 4000;
 const BYTES: usize = 1 << 20;
 
-/// Rounds over a shape in a pass, and passes over all shapes.
+/// The number of rounds over a shape in a pass, and of passes over all shapes.
 const ROUNDS: usize = 100;
 const PASSES: usize = 4;
 
 const REFUSED: u64 = 1 << 63;
 
-/// A refusal without a span, or no value.
+/// The result for an error without a span, or for a literal without a value.
 #[cfg(upstream)]
 const NONE: u64 = u64::MAX;
 
@@ -141,7 +141,7 @@ mod upstream {
         }
     }
 
-    /// The text of `len` bytes from this address.
+    /// Returns the text of `len` bytes at the address `text`.
     #[inline(always)]
     pub unsafe fn text<'a>(text: *const u8, len: usize) -> &'a str {
         unsafe { str::from_utf8_unchecked(std::slice::from_raw_parts(text, len)) }
@@ -202,7 +202,7 @@ mod upstream {
     }
 }
 
-/// xorshift64*, so that each run has the same texts.
+/// A xorshift64* generator, by which each run has the same texts.
 struct Numbers(u64);
 
 impl Numbers {
@@ -213,12 +213,12 @@ impl Numbers {
         self.0.wrapping_mul(0x2545_F491_4F6C_DD1D)
     }
 
-    /// A number below `end`.
+    /// Draws a number below `end`.
     fn below(&mut self, end: u64) -> u64 {
         (self.next() >> 32) % end
     }
 
-    /// A number of up to `bits` bits, each length as likely.
+    /// Draws a number of up to `bits` bits. All lengths are equally likely.
     fn of_bits(&mut self, bits: u64) -> u128 {
         let wide = (u128::from(self.next()) << 64) | u128::from(self.next());
         wide >> (128 - 1 - self.below(bits))
@@ -228,12 +228,12 @@ impl Numbers {
         texts[self.below(texts.len() as u64) as usize]
     }
 
-    /// One to `most` decimal digits.
+    /// Draws one to `most` decimal digits.
     fn digits(&mut self, most: u64) -> String {
         (0..=self.below(most)).map(|_| char::from(b'0' + self.below(10) as u8)).collect()
     }
 
-    /// As many texts as `len` says, one after the other.
+    /// Draws `len` texts, and returns them joined.
     fn many(&mut self, len: usize, text: fn(&mut Numbers) -> String) -> String {
         (0..len).map(|_| text(self)).collect()
     }
@@ -248,7 +248,7 @@ impl Numbers {
         }
     }
 
-    /// A character that is not ASCII.
+    /// Draws a character that is not ASCII.
     fn non_ascii(&mut self) -> String {
         let last = [0x7FF, 0xFFFF, 0x1_FFFF][self.below(3) as usize];
         loop {
@@ -266,7 +266,7 @@ impl Numbers {
         format!("\\u{{{:x}}}", u32::from(self.non_ascii().chars().next().unwrap()))
     }
 
-    /// An escape that every kind of quoted literal has.
+    /// Draws an escape that is valid in every kind of quoted literal.
     fn escape(&mut self) -> String {
         match self.below(4) {
             0 => format!("\\x{:02x}", 1 + self.below(127)),
@@ -275,7 +275,7 @@ impl Numbers {
     }
 }
 
-/// The digits in groups from the right, with an underscore between two.
+/// Returns the digits in groups of `group` from the right, with an underscore between two groups.
 fn grouped(digits: &str, group: usize) -> String {
     let mut text = String::new();
     for (i, digit) in digits.chars().enumerate() {
@@ -289,22 +289,22 @@ fn grouped(digits: &str, group: usize) -> String {
 
 const TYPES: [&str; 12] = ["u8", "u16", "u32", "u64", "u128", "usize", "i8", "i16", "i32", "i64", "i128", "isize"];
 
-/// The calls on the texts of a shape beside `parse`.
+/// The expected result of `parse` for the texts of a shape.
 #[derive(Clone, Copy, PartialEq)]
 enum Texts {
-    /// They are literals with a value.
+    /// A literal with a value.
     Valued,
-    /// They are literals without a value.
+    /// A literal without a value.
     Parsed,
-    /// They are refused.
+    /// An error.
     Refused,
-    /// They are refused, and at another place than by upstream, as docs/DIFFERENCES.md says.
+    /// An error with another span than upstream's, as docs/DIFFERENCES.md says.
     RefusedElsewhere,
 }
 
 use Texts::{Parsed, Refused, RefusedElsewhere, Valued};
 
-/// A kind of literal, the name of a shape, what the texts are, and a text of it.
+/// A kind of literal, the name of a shape, the expected result, and a function that draws a text.
 type Shape = (&'static str, &'static str, Texts, fn(&mut Numbers) -> String);
 
 const SHAPES: &[Shape] = &[
@@ -441,7 +441,7 @@ const SHAPES: &[Shape] = &[
     }),
 ];
 
-/// The texts of the shape at this place: fewer where they are long.
+/// Returns the texts of the shape at index `place`. There are fewer if they are long.
 fn texts_of(place: usize) -> Vec<String> {
     let mut numbers = Numbers(0x9E37_79B9_7F4A_7C15u64.wrapping_mul(1 + place as u64));
     let mut texts = Vec::new();
@@ -454,7 +454,7 @@ fn texts_of(place: usize) -> Vec<String> {
     texts
 }
 
-/// Stops unless the texts are literals or refused, as the shape says, and both crates answer the same.
+/// Stops if a text does not have the expected result, or if the results of both crates differ.
 fn compare(texts: &[&str], shape: Texts) {
     let refused = matches!(shape, Refused | RefusedElsewhere);
     for text in texts {
@@ -476,10 +476,10 @@ fn compare(texts: &[&str], shape: Texts) {
     }
 }
 
-/// A call that is timed: of a text, by its address and length.
+/// A call that is timed. Its arguments are the address and the length of a text.
 type Call = unsafe extern "C" fn(*const u8, usize) -> u64;
 
-/// Returns the answer of the call on the text.
+/// Returns the result of `call` for `text`.
 #[inline(always)]
 fn answer(call: Call, text: &str) -> u64 {
     unsafe { call(text.as_ptr(), text.len()) }
@@ -498,11 +498,11 @@ const CALLS: [Call; 6] = [
 #[cfg(not(upstream))]
 const CALLS: [Call; 3] = [ours::parse, ours::value, ours::parse_string];
 
-/// Nanoseconds a text of each call.
+/// The nanoseconds per text of each call.
 type Times = [f64; CALLS.len()];
 
-/// Makes the times the least of themselves and of these rounds. The calls take turns, so that what else the
-/// machine does meets all of them.
+/// Runs the rounds, and lowers `least` to the least times. The calls take turns, so other work of
+/// the machine affects all of them.
 fn time(texts: &[&str], least: &mut Times) {
     for _ in 0..ROUNDS {
         for (least, call) in least.iter_mut().zip(CALLS) {
@@ -517,7 +517,7 @@ fn time(texts: &[&str], least: &mut Times) {
     }
 }
 
-/// Prints the times of a shape, and gives those of its ratios that are above one.
+/// Prints the times of a shape. Returns its ratios above one, with their lines.
 fn row(kind: &str, name: &str, shape: Texts, texts: &[&str], times: &Times) -> Vec<(f64, String)> {
     let bytes = texts.iter().map(|text| text.len()).sum::<usize>() as f64 / texts.len() as f64;
     let each = CALLS.len() / 3;
@@ -543,7 +543,7 @@ fn row(kind: &str, name: &str, shape: Texts, texts: &[&str], times: &Times) -> V
     slower
 }
 
-/// The two lines above the figures.
+/// Prints the lines above the figures.
 fn head() {
     if cfg!(upstream) {
         println!("{:<52}{:>26}{:>26}{:>26}", "", "parse", "parse and value", "parse a String");
@@ -557,10 +557,10 @@ fn head() {
     }
 }
 
-/// A kind, a shape, whether its literals have values, and its texts.
+/// A kind, a shape, the expected result, and its texts.
 type Row<'a> = (&'a str, &'a str, Texts, Vec<&'a str>);
 
-/// The least times of each row, whose answers are compared first.
+/// Returns the least times of each row. Compares the results first.
 fn times_of(rows: &[Row]) -> Vec<[f64; CALLS.len()]> {
     for (_, _, shape, texts) in rows {
         compare(texts, *shape);
@@ -574,7 +574,7 @@ fn times_of(rows: &[Row]) -> Vec<[f64; CALLS.len()]> {
     times
 }
 
-/// Prints the tables of tokens and values, of the sources that the environment names.
+/// Prints the tables of tokens and values for the sources that the environment names.
 #[cfg(not(shapes))]
 fn tokens_and_values() {
     let rust = std::env::var("LITRS_BENCH_RUST");

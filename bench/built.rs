@@ -1,14 +1,15 @@
-//! Times literals that `litrs_build` writes beside Rust's `format!` of the value: `{:?}`, and `{}` of an integer.
+//! Times literals that `litrs_build` writes, beside Rust's `format!` of the value: `{:?}`, and `{}`
+//! for an integer.
 
 use crate::{Call, answer, ours};
 use std::hint::black_box;
 use std::time::Instant;
 
-/// The values of a row, and the rounds over them.
+/// The number of values of a row, and of rounds over them.
 const VALUES: usize = 200;
 const ROUNDS: usize = 300;
 
-/// The text of `len` bytes from this address.
+/// Returns the text of `len` bytes at an address.
 #[inline(always)]
 unsafe fn text<'a>(text: *const u8, len: usize) -> &'a str {
     unsafe { str::from_utf8_unchecked(std::slice::from_raw_parts(text, len)) }
@@ -27,14 +28,14 @@ unsafe extern "C" fn debug_char(at: *const u8, len: usize) -> u64 {
     value.map_or(u64::MAX, |c| black_box(format!("{c:?}")).len() as u64)
 }
 
-/// A call for the two halves of an integer.
+/// A call whose arguments are the two halves of an integer.
 type IntegerCall = unsafe extern "C" fn(u64, u64) -> u64;
 
 fn number_of(high: u64, low: u64) -> u128 {
     (u128::from(high) << 64) | u128::from(low)
 }
 
-/// Rust's `to_string` prints as the crate itoa does.
+/// Formats an integer with Rust's `to_string`, which uses the method of the crate itoa.
 unsafe extern "C" fn display(high: u64, low: u64) -> u64 {
     let text = if high == 0 { low.to_string() } else { number_of(high, low).to_string() };
     black_box(text).len() as u64
@@ -45,7 +46,7 @@ unsafe extern "C" fn display_hexadecimal(high: u64, low: u64) -> u64 {
     black_box(text).len() as u64
 }
 
-/// The least nanoseconds a value of both calls, in turn.
+/// Returns the least nanoseconds per value of both calls, which take turns.
 fn time<T>(values: &[T], ours: impl Fn(&T) -> u64, rust: impl Fn(&T) -> u64) -> [f64; 2] {
     let mut least = [f64::INFINITY; 2];
     for _ in 0..ROUNDS {
@@ -63,7 +64,7 @@ fn time<T>(values: &[T], ours: impl Fn(&T) -> u64, rust: impl Fn(&T) -> u64) -> 
     least
 }
 
-/// Pseudorandom numbers from a fixed seed (xorshift).
+/// A generator of pseudorandom numbers from a fixed seed (xorshift).
 struct Draw(u64);
 
 impl Draw {
@@ -78,13 +79,13 @@ impl Draw {
         char::from(b' ' + (self.next() % 95) as u8)
     }
 
-    /// A letter, a digit or a space.
+    /// Draws a letter, a digit or a space.
     fn plain(&mut self) -> char {
         char::from(b"abcdefghijklmnopqrstuvwxyz 0123456789ABCDEF"[(self.next() % 43) as usize])
     }
 }
 
-/// `len` bytes of such characters.
+/// Returns texts of at least `len` bytes, of characters that `one` draws.
 fn texts(draw: &mut Draw, len: usize, one: fn(&mut Draw, usize) -> char) -> Vec<String> {
     let mut made = Vec::new();
     for _ in 0..VALUES {
@@ -105,7 +106,8 @@ fn cyrillic(draw: &mut Draw, _: usize) -> char {
     char::from_u32(0x430 + (draw.next() % 32) as u32).unwrap()
 }
 
-/// The name of a row, the length of its values in bytes, their characters, the call of ours and Rust's.
+/// The name of a row, the length of its values in bytes, a function that draws their characters,
+/// our call and Rust's.
 type Row = (&'static str, usize, fn(&mut Draw, usize) -> char, Call, Call);
 
 const ROWS: &[Row] = &[
@@ -127,7 +129,7 @@ const ROWS: &[Row] = &[
     ("char, Cyrillic", 2, cyrillic, ours::build_char, debug_char),
 ];
 
-/// The name of a row, the number of bits of its values, the call of ours and Rust's.
+/// The name of a row, the number of bits of its values, our call and Rust's.
 type IntegerRow = (&'static str, u32, IntegerCall, IntegerCall);
 
 const INTEGER_ROWS: &[IntegerRow] = &[

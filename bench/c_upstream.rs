@@ -1,6 +1,6 @@
-//! The calls of litrs.h over the Rust crate litrs, as a static library: what the C benchmark compares with.
+//! The calls of litrs.h over the Rust crate litrs, as a static library for the C benchmark.
 //!
-//! A refusal has no kind, which is private there, and neither `is_final` nor `is_open`.
+//! An error does not have a kind, which is private in that crate, or `is_final` and `is_open`.
 
 use litrs::{Literal, ParseError};
 use std::ops::Range;
@@ -47,7 +47,7 @@ pub struct Answer {
     refusal: Refusal,
 }
 
-/// The text at a pointer, or None where its bytes are not UTF-8.
+/// Returns the text at a pointer, or `None` if its bytes are not UTF-8.
 #[inline(always)]
 unsafe fn text_at<'a>(text: *const u8, len: usize) -> Option<&'a str> {
     let bytes = if len == 0 { &[] } else { unsafe { std::slice::from_raw_parts(text, len) } };
@@ -83,7 +83,7 @@ pub unsafe extern "C" fn upstream_parse_into(text: *const u8, len: usize, answer
     }
 }
 
-/// The place of a part, which is a slice of the text.
+/// Returns the place of `part`, which must be a slice of `text`.
 #[inline(always)]
 fn place(text: &str, part: &str) -> Place {
     let start = part.as_ptr() as usize - text.as_ptr() as usize;

@@ -1,21 +1,22 @@
-//! Sources, which are read in their folders, and the literals in them.
+//! Reads sources from folders, and finds the literals in them.
 
 use crate::Texts::{self, Parsed, Valued};
 use crate::{Call, REFUSED, answer, ours};
 use std::fs;
 use std::path::Path;
 
-/// The texts of a shape at most, taken at equal distances from all of them.
+/// The greatest number of texts of a shape. They are taken at equal distances from all of them.
 const TEXTS: usize = 20_000;
 
-/// The sources: their name, the variable that has their folder, and the extension of their files.
+/// The name of the sources, the variable that names their folder, and the extension of their files.
 const CORPORA: &[(&str, &str, &str)] = &[
     ("Rattle", "LITRS_BENCH_SOURCES", "rt"),
     ("rustc", "LITRS_BENCH_RUST", "rs"),
     ("crates", "LITRS_BENCH_CRATES", "rs"),
 ];
 
-/// The files of the folder and those below it that have this extension, in the order of their names.
+/// Appends the texts of the files in `folder` and below it that have this extension, in the order
+/// of their names.
 fn sources(folder: &Path, extension: &str, found: &mut Vec<String>) {
     let Ok(entries) = fs::read_dir(folder) else {
         return;
@@ -31,7 +32,7 @@ fn sources(folder: &Path, extension: &str, found: &mut Vec<String>) {
     }
 }
 
-/// The length of a quoted body with its closing quote, 0 where it has none.
+/// Returns the length of a quoted body with its closing quote, or 0 if there is no closing quote.
 fn quoted_len(rest: &str, quote: u8) -> usize {
     let mut escaped = false;
     for (i, byte) in rest.bytes().enumerate() {
@@ -53,7 +54,7 @@ fn raw_len(rest: &str) -> usize {
     }
 }
 
-/// The length of a number, with a fraction and a suffix.
+/// Returns the length of a number, with a fraction and a suffix.
 fn number_len(rest: &str) -> usize {
     let word = |text: &str| text.find(|c: char| c != '_' && !c.is_alphanumeric()).unwrap_or(text.len());
     let len = word(rest);
@@ -97,7 +98,7 @@ fn token_len(rest: &str) -> usize {
     }
 }
 
-/// The literals of a source, in their order.
+/// Appends the literals of a source, in their order.
 fn literals_of(mut rest: &str, found: &mut Vec<String>) {
     while !rest.is_empty() {
         if rest.starts_with("//") {
@@ -112,7 +113,7 @@ fn literals_of(mut rest: &str, found: &mut Vec<String>) {
     }
 }
 
-/// A kind of literal, the name of a shape, what the texts are, and which of the literals are of the shape.
+/// A kind of literal, the name of a shape, the expected result, and a test for its literals.
 type Class = (&'static str, &'static str, Texts, fn(&str) -> bool);
 
 const CLASSES: &[Class] = &[
@@ -132,14 +133,14 @@ fn is_float(text: &str) -> bool {
     !text.starts_with("0x") && text.contains(['.', 'e', 'E']) && !text.ends_with("size")
 }
 
-/// The sources below the folder that have this extension.
+/// Returns the texts of the files below `folder` that have this extension.
 pub fn sources_in(folder: &str, extension: &str) -> Vec<String> {
     let mut found = Vec::new();
     sources(Path::new(folder), extension, &mut found);
     found
 }
 
-/// Returns sources below the folder, one after the other, of `len` bytes or a little more.
+/// Returns the sources below the folder, one after the other, until there are `len` bytes.
 pub fn text_of(folder: &str, len: usize) -> String {
     let mut text = String::new();
     for source in sources_in(folder, "rt") {
@@ -159,7 +160,7 @@ pub struct Corpus {
 }
 
 impl Corpus {
-    /// The rows of the literals: a kind, a name, what the texts are, and the texts.
+    /// Returns the rows of the literals: a kind, a name, the expected result, and the texts.
     pub fn rows(&self) -> Vec<(&'static str, &'static str, Texts, Vec<String>)> {
         let of = |is: fn(&str) -> bool| {
             let all: Vec<&String> = self.literals.iter().filter(|text| is(text)).collect();
@@ -170,7 +171,7 @@ impl Corpus {
     }
 }
 
-/// The corpora whose folder the environment names, if it has literals.
+/// Returns the corpora whose folders the environment names, without those that have no literals.
 pub fn found() -> Vec<Corpus> {
     let mut corpora = Vec::new();
     for (name, variable, extension) in CORPORA {

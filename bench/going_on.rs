@@ -4,10 +4,10 @@ use crate::{Call, answer, ours};
 use std::hint::black_box;
 use std::time::Instant;
 
-/// Rounds over a shape.
+/// The number of rounds over a shape.
 const ROUNDS: usize = 100;
 
-/// The least time of a round over the texts, in nanoseconds a text.
+/// Returns the least time of a round over the texts, in nanoseconds per text.
 pub fn least(call: Call, texts: &[&str]) -> f64 {
     let mut least = f64::INFINITY;
     for _ in 0..ROUNDS {
@@ -22,7 +22,7 @@ pub fn least(call: Call, texts: &[&str]) -> f64 {
     least
 }
 
-/// A name, and a function from a length in bytes to a text of about this length.
+/// A name, and a function that returns a text of about a given length in bytes.
 type Hostile = (&'static str, fn(usize) -> String);
 
 const HOSTILE: &[Hostile] = &[

@@ -1,14 +1,15 @@
-//! Times `parse` over texts that the table of shapes lacks: long runs of one character, one word alone, and
-//! literals of given lengths.
+//! Times `parse` over texts that the table of shapes lacks: long runs of one character, one word
+//! alone, and literals of given lengths.
 
 use crate::Texts::{Refused, Valued};
 use crate::{Numbers, Row, Texts, corpus, row, times_of};
 
-/// The texts of a shape of one size, and the bytes that they have at most, together.
+/// The greatest number of texts of a shape of one size, and of their bytes together.
 const TEXTS: usize = 1000;
 const BYTES: usize = 1 << 18;
 
-/// A kind of literal, the name of a shape, what the texts are, the sizes that it is swept over, and a text of it.
+/// A kind of literal, the name of a shape, the expected result, its sizes, and a function that
+/// draws a text of a size.
 type Sweep = (&'static str, &'static str, Texts, &'static [usize], fn(&mut Numbers, usize) -> String);
 
 const SWEEPS: &[Sweep] = &[
@@ -124,7 +125,7 @@ const SWEEPS: &[Sweep] = &[
     }),
 ];
 
-/// The texts of the shape at this place and of this size.
+/// Returns the texts of the shape at index `place` that have this size.
 fn texts_of(place: usize, size: usize) -> Vec<String> {
     let mut numbers = Numbers(0xA076_1D64_78BD_642Fu64.wrapping_mul(1 + place as u64) ^ size as u64);
     let mut texts = Vec::new();
@@ -137,7 +138,7 @@ fn texts_of(place: usize, size: usize) -> Vec<String> {
     texts
 }
 
-/// The sizes of the shape with this name, and its texts of each.
+/// Returns each size of the shape with this name, with its texts.
 pub fn texts_named(name: &str) -> Vec<(usize, Vec<String>)> {
     let place = SWEEPS.iter().position(|sweep| sweep.1 == name).expect("a name of a shape");
     SWEEPS[place].3.iter().map(|size| (*size, texts_of(place, *size))).collect()

@@ -1,22 +1,23 @@
-//! Times the tokens of Rust sources beside rustc_lexer: over all tokens of the sources, and by kind of token, each cut
-//! from its own place. Both say the kind and the length of a token; rustc_lexer tests no escape, digit or suffix.
+//! Times the tokens of Rust sources beside rustc_lexer: all tokens of the sources in turn, and the
+//! tokens of each kind, each cut from its own place. Both return the kind and the length of a
+//! token. rustc_lexer does not test escapes, digits and suffixes.
 
 use crate::{Call, answer, corpus, ours};
 use std::collections::{BTreeMap, HashMap};
 use std::hint::black_box;
 use std::time::Instant;
 
-/// The places of a kind at most, and the rounds over them.
+/// The greatest number of places of a kind, and the number of rounds over them.
 const PLACES: usize = 4000;
 const ROUNDS: usize = 400;
 
-/// The rounds over all sources.
+/// The number of rounds over all sources.
 const WALKS: usize = 10;
 
-/// A kind with fewer tokens is timed once more, with these repeated until there are `PLACES`.
+/// A kind with fewer tokens is timed a second time, with its tokens repeated up to `PLACES`.
 const FEW: usize = 100;
 
-/// The kinds at whose places the calls of litrs_prefix are timed too.
+/// The kinds for which the calls of litrs_prefix are timed too.
 const LITERALS: &[&str] = &[
     "bool",
     "byte",
@@ -30,7 +31,7 @@ const LITERALS: &[&str] = &[
     "malformed literal",
 ];
 
-/// The kinds that rustc_lexer has too, by their numbers in litrs_bench.rt.in.
+/// The kinds of rustc_lexer, by their numbers in litrs_bench.rt.in.
 const WHITESPACE: u64 = 1;
 const LINE_COMMENT: u64 = 2;
 const BLOCK_COMMENT: u64 = 3;
@@ -91,12 +92,12 @@ mod theirs {
     }
 }
 
-/// The kind and the length of a token, by its number.
+/// Returns the kind and the length of a token from its number.
 fn split(number: u64) -> (u64, usize) {
     (number >> 56, (number & ((1 << 56) - 1)) as usize)
 }
 
-/// The tokens of a text: where each begins, and its number. A bool is a literal.
+/// Returns the start and the number of each token of a text. A bool is a literal.
 fn tokens_of(call: Call, text: &str) -> Vec<(usize, u64)> {
     let (mut found, mut start) = (Vec::new(), 0);
     while start < text.len() {
@@ -109,7 +110,7 @@ fn tokens_of(call: Call, text: &str) -> Vec<(usize, u64)> {
     found
 }
 
-/// The name of a kind of token in the table.
+/// Returns the name of a kind of token in the table.
 fn name_of(kind: u64, text: &str) -> &'static str {
     let begins = |fronts: &[&str]| fronts.iter().any(|front| text.starts_with(front));
     match kind {
@@ -137,7 +138,7 @@ fn name_of(kind: u64, text: &str) -> &'static str {
     }
 }
 
-/// The tokens of a kind: how many, their bytes, and some of their places, each the text from there on.
+/// The tokens of a kind: their number, their bytes, and the text from some of their places on.
 struct Kind<'a> {
     count: usize,
     bytes: usize,
@@ -146,7 +147,8 @@ struct Kind<'a> {
 }
 
 impl<'a> Kind<'a> {
-    /// Adds the token of `len` bytes at the front of `rest`. Of more places than fit each other one is kept.
+    /// Adds the token of `len` bytes at the front of `rest`. Keeps every second place if there are
+    /// too many.
     fn add(&mut self, rest: &'a str, len: usize) {
         if self.count % self.step == 0 {
             self.rests.push(rest);
@@ -163,15 +165,15 @@ impl<'a> Kind<'a> {
 /// The tokens of sources.
 #[derive(Default)]
 struct Found<'a> {
-    /// Those of which both lexers say the same, by their kinds.
+    /// The tokens that are the same in both lexers, by their kinds.
     kinds: BTreeMap<&'static str, Kind<'a>>,
-    /// Those that rustc_lexer has with another kind.
+    /// The tokens that have another kind in rustc_lexer.
     of_another_kind: Vec<&'a str>,
-    /// Those that rustc_lexer does not have.
+    /// The tokens that rustc_lexer does not have.
     of_another_extent: Vec<&'a str>,
 }
 
-/// The tokens of the sources, beside rustc_lexer's.
+/// Returns the tokens of the sources, compared with those of rustc_lexer.
 fn tokens_beside(sources: &[String]) -> Found<'_> {
     let mut found = Found::default();
     for text in sources {
@@ -192,12 +194,12 @@ fn tokens_beside(sources: &[String]) -> Found<'_> {
     found
 }
 
-/// Returns some of the texts, up to 24 characters of each.
+/// Returns up to 24 characters of some of the texts.
 fn some_of(texts: &[&str]) -> Vec<String> {
     texts.iter().step_by(1 + texts.len() / 8).map(|text| text.chars().take(24).collect()).collect()
 }
 
-/// The least nanoseconds of a round over these texts by each call, the calls in turn.
+/// Returns the least nanoseconds of a round over these texts by each call. The calls take turns.
 fn time(texts: &[&str], rounds: usize, calls: [Call; 2]) -> [f64; 2] {
     let mut least = [f64::INFINITY; 2];
     for _ in 0..rounds {
@@ -220,7 +222,7 @@ fn row(name: &str, count: usize, bytes: usize, timed: usize, [ours, theirs]: [f6
     println!("{name:<22}{count:>10}{len:>8.1}{ours:>10.1}{theirs:>13.1}{:>7.2}", ours / theirs);
 }
 
-/// Prints the table of the Rust sources of the folder.
+/// Prints the table of the Rust sources in `folder`.
 pub fn main(folder: &str) {
     let sources = corpus::sources_in(folder, "rs");
     let found = tokens_beside(&sources);

@@ -1,15 +1,16 @@
-//! Times small forms in Rust over some texts of `held_out`: what a part of the work takes by itself.
+//! Times small forms in Rust over some texts of `held_out`. Each form does a part of the work of
+//! `parse`.
 
 use crate::going_on::least;
 use crate::{Call, corpus, held_out, ours};
 use std::hint::black_box;
 
-/// The text at this address.
+/// Returns the text of `len` bytes at the address `text`.
 unsafe fn text_at<'a>(text: *const u8, len: usize) -> &'a str {
     unsafe { str::from_utf8_unchecked(std::slice::from_raw_parts(text, len)) }
 }
 
-/// Which bool the text is.
+/// Returns which bool the text is.
 unsafe extern "C" fn which_bool(text: *const u8, len: usize) -> u64 {
     match unsafe { text_at(text, len) } {
         "true" => 1,
@@ -18,7 +19,7 @@ unsafe extern "C" fn which_bool(text: *const u8, len: usize) -> u64 {
     }
 }
 
-/// The parsed text, in as many bytes as a literal.
+/// A parsed text, of the same size as a literal.
 #[allow(dead_code)]
 enum Parsed<'a> {
     Bool(bool),
@@ -26,7 +27,8 @@ enum Parsed<'a> {
     Text(&'a str, [usize; 5], bool),
 }
 
-/// A number or a text, by its length: a call, as that of what cuts a literal.
+/// Returns a number or a text. Like the functions that cut a literal, this one is called, and not
+/// inlined.
 #[inline(never)]
 fn parsed(text: &str) -> Result<Parsed<'_>, Refusal> {
     let places = [text.len(); 5];
@@ -37,7 +39,7 @@ fn parsed(text: &str) -> Result<Parsed<'_>, Refusal> {
     }
 }
 
-/// Which bool the text is, where the texts of other kinds are told from it first, each in a call of its own kind.
+/// Returns which bool the text is, after a call for the texts of other kinds.
 unsafe extern "C" fn bool_among_kinds(text: *const u8, len: usize) -> u64 {
     let text = unsafe { text_at(text, len) };
     let answer = match text.as_bytes() {
@@ -54,8 +56,8 @@ unsafe extern "C" fn bool_among_kinds(text: *const u8, len: usize) -> u64 {
     }
 }
 
-/// The cut of a text of another kind: the places of its parts, and a value of its own if it has one. Each is
-/// a call, like each cut of ours.
+/// A cut text of another kind: the places of its parts, and its own value if it has one. Each of
+/// the functions that cut is called, like each of ours.
 struct Cut {
     places: [usize; 3],
     value: Option<String>,
@@ -86,7 +88,7 @@ fn cut_text(text: &str, front: usize) -> Result<Cut, Refusal> {
     }
 }
 
-/// The parsed text, if the parts are put together in the function that asks for it.
+/// A parsed text whose parts the calling function puts together.
 enum Whole<'a> {
     Bool(bool),
     Number(&'a str, [usize; 4]),
@@ -95,7 +97,7 @@ enum Whole<'a> {
     Text(&'a str, Cut),
 }
 
-/// The literal that the text is, by its first byte.
+/// Returns the literal that the text is, by its first byte.
 #[inline(always)]
 fn whole(text: &str) -> Result<Whole<'_>, Refusal> {
     match text.as_bytes() {
@@ -112,7 +114,8 @@ fn whole(text: &str) -> Result<Whole<'_>, Refusal> {
     }
 }
 
-/// Which bool the text is, where a literal of another kind is put together here, from what a call has cut.
+/// Returns which bool the text is. Puts a literal of another kind together here, from the parts
+/// that a call has cut.
 unsafe extern "C" fn bool_beside_kinds(text: *const u8, len: usize) -> u64 {
     match whole(unsafe { text_at(text, len) }) {
         Ok(Whole::Bool(value)) => 1 + u64::from(value),
@@ -142,7 +145,7 @@ unsafe extern "C" fn closing_quote(text: *const u8, len: usize) -> u64 {
     }
 }
 
-/// Copies the text to memory of its own, and frees that.
+/// Copies the text to new memory, and frees it.
 unsafe extern "C" fn copied(text: *const u8, len: usize) -> u64 {
     black_box(unsafe { text_at(text, len) }.to_string()).len() as u64
 }
@@ -159,7 +162,8 @@ unsafe extern "C" fn raw_end(text: *const u8, len: usize) -> u64 {
     if closing.bytes().all(|byte| byte == b'#') { suffix.len() as u64 + 1 } else { 0 }
 }
 
-/// The value of the hex digits and underscores, and how many bytes they have.
+/// Returns the value of the hexadecimal digits and underscores at the front, and their length in
+/// bytes.
 fn hex(digits: &str) -> (u32, usize) {
     let len = digits.find(|c: char| c != '_' && !c.is_ascii_hexdigit()).unwrap_or(digits.len());
     let digits = digits[..len].chars().filter_map(|c| c.to_digit(16));
@@ -191,8 +195,8 @@ fn push_item(rest: &str, value: &mut Vec<u8>) -> usize {
     2
 }
 
-/// Puts the value of a quoted string together, with room for as many bytes as the text has, and frees it. It tests
-/// neither the escapes nor the characters nor what follows the closing quote.
+/// Builds the value of a quoted string, with room for as many bytes as the text has, and frees it.
+/// It does not test the escapes, the characters and the text after the closing quote.
 unsafe extern "C" fn unescaped(text: *const u8, len: usize) -> u64 {
     let text = unsafe { text_at(text, len) };
     let mut rest = &text[text.find('"').map_or(0, |quote| quote + 1)..];
@@ -208,7 +212,7 @@ unsafe extern "C" fn unescaped(text: *const u8, len: usize) -> u64 {
     black_box(value).len() as u64
 }
 
-/// Returns the value of a simple escape or `\xNN` with its length, or `None` if it is refused.
+/// Returns the value of a simple escape or `\xNN` with its length, or `None` if it is invalid.
 #[inline(always)]
 fn escaped_byte(rest: &[u8]) -> Option<(u8, usize)> {
     let byte = match *rest.get(1)? {
@@ -226,8 +230,9 @@ fn escaped_byte(rest: &[u8]) -> Option<(u8, usize)> {
     Some((byte, 2))
 }
 
-/// Makes the value of a quoted string of few bytes, if the text is one, and frees it. The value is made on the stack
-/// while the characters and escapes are tested, and copied once the text ends with the closing quote.
+/// Builds the value of a quoted string of few bytes, if the text is one, and frees it. The value is
+/// built on the stack while the characters and escapes are tested. It is copied once the text ends
+/// with the closing quote.
 unsafe extern "C" fn tested(text: *const u8, len: usize) -> u64 {
     let text = unsafe { text_at(text, len) }.as_bytes();
     let mut room = [0; 80];
@@ -255,7 +260,7 @@ unsafe extern "C" fn tested(text: *const u8, len: usize) -> u64 {
     black_box(room[..used].to_vec()).len() as u64
 }
 
-/// A refusal, in as many bytes as ours.
+/// An error, of the same size as ours.
 #[allow(dead_code)]
 struct Refusal {
     span: Option<std::ops::Range<usize>>,
@@ -263,7 +268,8 @@ struct Refusal {
     kind: u8,
 }
 
-/// The refusal of the first escape, if it is `\xNN` and passes 7F or is 0.
+/// Returns the place of the first escape, or 0 if there is none. Returns an error if the escape is
+/// `\xNN` with 0 or a value above 7F.
 #[inline(never)]
 fn first_escape(text: &str) -> Result<usize, Refusal> {
     let Some(place) = text.find('\\') else {
@@ -278,7 +284,7 @@ fn first_escape(text: &str) -> Result<usize, Refusal> {
     }
 }
 
-/// Returns the place of the first escape, or the sum of the ends of its span if it is refused.
+/// Returns the place of the first escape, or the sum of the ends of its span if it is invalid.
 unsafe extern "C" fn refused_escape(text: *const u8, len: usize) -> u64 {
     match first_escape(unsafe { text_at(text, len) }) {
         Ok(place) => place as u64,
@@ -303,9 +309,10 @@ unsafe extern "C" fn number_parts(text: *const u8, len: usize) -> u64 {
     (integer + (end << 8) + ((len - end) << 16)) as u64
 }
 
-/// Returns the first answer on a literal of any kind. For a number this is the lengths of its parts, for a quoted
-/// string with a backslash its value. For a raw string it is the place of the suffix, and for any other text that of
-/// the closing quote.
+/// Returns the first result for a literal of any kind. For a number this is the lengths of its
+/// parts, for a bool which one it is, and for a quoted literal with a backslash the length of its
+/// value. For a raw string it is the length of the suffix, and for any other text the place of the
+/// closing quote.
 unsafe extern "C" fn parts_by_kind(text: *const u8, len: usize) -> u64 {
     let bytes = unsafe { text_at(text, len) }.as_bytes();
     let front = match bytes {
@@ -326,7 +333,7 @@ unsafe extern "C" fn parts_by_kind(text: *const u8, len: usize) -> u64 {
 const VALUE: &str = "its value, put together and freed";
 const TESTED: &str = "its value, tested and put together on the stack, copied and freed";
 
-/// Texts of `held_out`, what a form does of them, and the form.
+/// The name of texts of `held_out`, the result of a form, and the form.
 const FORMS: &[(&str, &str, Call)] = &[
     ("only true", "which bool it is", which_bool),
     ("only false", "which bool it is", which_bool),
@@ -351,7 +358,7 @@ const FORMS: &[(&str, &str, Call)] = &[
     ("refused: \\x00 after", "where the escape is refused", refused_escape),
 ];
 
-/// Likewise for literals of real sources.
+/// Like [`FORMS`], for literals of real sources.
 const SOURCE_FORMS: &[(&str, &str, Call)] = &[
     ("all in turn", "the parts or the value of each kind", parts_by_kind),
     ("plain", "where its closing quote stands", closing_quote),

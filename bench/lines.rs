@@ -1,13 +1,14 @@
-//! Times `run` of `litrs_lines` from memory to memory, beside the same program over the Rust crate.
+//! Times `run` of `litrs_lines` from memory to memory, beside a program over the Rust crate that
+//! does the same.
 
 use crate::{BYTES, Call, Numbers, TEXTS, TYPES, answer, grouped, ours};
 use std::hint::black_box;
 use std::time::Instant;
 
-/// Rounds over a shape.
+/// The number of rounds over a shape.
 const ROUNDS: usize = 100;
 
-/// The kind of the literals, the name of a shape, and a line of it, without its LF.
+/// The kind of the literals, the name of a shape, and a function that draws a line without its LF.
 type Lines = (&'static str, &'static str, fn(&mut Numbers) -> String);
 
 const LINES: &[Lines] = &[
@@ -32,7 +33,7 @@ const LINES: &[Lines] = &[
     ("", "refused: long lines", |n| format!("x{}", n.many(100_000, Numbers::plain))),
 ];
 
-/// Lines of the shape at this place, as one text.
+/// Returns lines of the shape at index `place` as one text, and their number.
 fn text_of(place: usize) -> (String, usize) {
     let mut numbers = Numbers(0xD1B5_4A32_D192_ED03u64.wrapping_mul(1 + place as u64));
     let mut text = String::new();
@@ -45,7 +46,8 @@ fn text_of(place: usize) -> (String, usize) {
     (text, count)
 }
 
-/// Like the program, over the Rust crate: lines by a buffered reader, reports by `write!`, hex by a table.
+/// The program over the Rust crate. It reads lines with a buffered reader, and writes reports with
+/// `write!` and hexadecimal digits with a table.
 #[cfg(upstream)]
 mod upstream {
     use crate::REFUSED;
@@ -131,7 +133,7 @@ const CALLS: [Call; 2] = [ours::run, upstream::run];
 #[cfg(not(upstream))]
 const CALLS: [Call; 1] = [ours::run];
 
-/// Times each shape, and prints its figures.
+/// Times each shape and prints its figures.
 pub fn main() {
     println!("\nNanoseconds a line of `run` of litrs_lines, from memory to memory, the least of {ROUNDS} rounds.");
     for (place, (kind, name, _)) in LINES.iter().enumerate() {

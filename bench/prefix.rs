@@ -1,11 +1,12 @@
-//! Times the literal at the front of a longer text, of each kind and before rests of several lengths. Times all tokens
-//! of a source, beside a cut of the same tokens by their lengths alone, as rustc_lexer makes it.
+//! Times the literal at the front of a longer text, for each kind and before rests of several
+//! lengths. Times all tokens of a source, beside a lexer that returns only the lengths of tokens,
+//! like rustc_lexer.
 
 use crate::{Call, answer, corpus, ours};
 use std::hint::black_box;
 use std::time::Instant;
 
-/// A kind, and a literal of it.
+/// A kind of literal, and a literal of this kind.
 const LITERALS: &[(&str, &str)] = &[
     ("Bool", "true"),
     ("Integer", "1_000u32"),
@@ -22,18 +23,18 @@ const LITERALS: &[(&str, &str)] = &[
     ("CString", "c\"a C string\""),
 ];
 
-/// The text after the literal, and its lengths in bytes.
+/// A text that is repeated after the literal, and the lengths of the rest in bytes.
 const REST: &str = ", and more of the text";
 const LENS: [usize; 3] = [0, 100, 100_000];
 
-/// Calls in a round, and rounds.
+/// The number of calls in a round, and of rounds.
 const TEXTS: usize = 1000;
 const ROUNDS: usize = 200;
 
-/// The bytes of the source whose tokens are cut, at the least.
+/// The least number of bytes of the source whose tokens are cut.
 const SOURCE_LEN: usize = 1 << 20;
 
-/// The least nanoseconds of a call.
+/// Returns the least nanoseconds of a call.
 fn time(call: Call, text: &str) -> f64 {
     let mut least = f64::INFINITY;
     for _ in 0..ROUNDS {
@@ -46,7 +47,7 @@ fn time(call: Call, text: &str) -> f64 {
     least
 }
 
-/// The rest of a text after some characters.
+/// The rest of a text after the characters that were read.
 struct Cursor<'a>(&'a str);
 
 impl<'a> Cursor<'a> {
@@ -85,7 +86,8 @@ impl<'a> Cursor<'a> {
         self.skip(continues_name);
     }
 
-    /// Skips hashes, a raw body and its closing, and a suffix. Returns `true` if there is a body.
+    /// Skips hashes, a raw body, its closing quote and hashes, and a suffix. Returns `true` if
+    /// there is a body.
     fn skip_raw(&mut self) -> bool {
         let begun = self.0;
         self.skip(|c| c == '#');
@@ -158,7 +160,7 @@ fn continues_name(c: char) -> bool {
     begins_name(c) || c.is_ascii_digit() || (!c.is_ascii() && c.is_alphanumeric())
 }
 
-/// The length of the token, the blanks or the comment at the front of a text.
+/// Returns the length of the token, the white space or the comment at the front of a text.
 fn token_len(text: &str) -> usize {
     let mut rest = Cursor(text);
     let Some(first) = rest.bump() else {
@@ -188,7 +190,7 @@ fn token_len(text: &str) -> usize {
     text.len() - rest.0.len()
 }
 
-/// The length of what is at the front of a text, where a literal is found by ours.
+/// Like [`token_len`], but finds a literal with our `prefix_len`.
 fn our_token_len(text: &str) -> usize {
     match answer(ours::prefix_len, text) {
         0 => token_len(text),
@@ -196,7 +198,7 @@ fn our_token_len(text: &str) -> usize {
     }
 }
 
-/// Returns the number of tokens of a text, and the least nanoseconds a token that cutting it takes.
+/// Returns the number of tokens of a text, and the least nanoseconds per token for cutting them.
 fn time_tokens(text: &str, len: fn(&str) -> usize) -> (usize, f64) {
     let (mut count, mut least) = (0, f64::INFINITY);
     for _ in 0..20 {

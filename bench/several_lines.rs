@@ -4,10 +4,10 @@ use crate::{Call, answer, ours};
 use std::hint::black_box;
 use std::time::Instant;
 
-/// Rounds over a text.
+/// The number of rounds over a text.
 const ROUNDS: usize = 100;
 
-/// The most that the time may grow by where there are twice as many lines.
+/// The greatest growth of the time if there are twice as many lines.
 const MOST_GROWTH: f64 = 2.2;
 
 /// The numbers of lines.
@@ -16,7 +16,7 @@ const COUNTS: [usize; 3] = [10_000, 20_000, 40_000];
 /// The bytes of a line, without its LF.
 const LINE_LEN: usize = 50;
 
-/// A name, what the literal begins with, how a line ends, and what it ends with.
+/// A name, the front of the literal, the end of each line, and the end of the literal.
 const SHAPES: &[(&str, &str, &str, &str)] = &[
     ("raw", "r#\"", "", "\"#"),
     ("raw, with quotes", "r#\"", " \"a\"", "\"#"),
@@ -28,8 +28,8 @@ const SHAPES: &[(&str, &str, &str, &str)] = &[
     ("a byte string", "b\"", "\\x00", "\""),
 ];
 
-/// Returns a literal of `lines` lines. It takes one allocation, so there is no free memory between texts. The
-/// collected lines would be kept there at first, and be moved once they have grown.
+/// Returns a literal of `lines` lines. Allocates once, so there is no free memory between the
+/// texts. Otherwise the collected lines would be there at first, and would be moved when they grow.
 fn text_of((_, front, end, closing): (&str, &str, &str, &str), lines: usize) -> String {
     let mut text = String::with_capacity(front.len() + (LINE_LEN + 1) * lines + closing.len());
     text.push_str(front);
@@ -47,8 +47,8 @@ unsafe extern "C" {
     fn mallopt(param: i32, value: i32) -> i32;
 }
 
-/// Makes the allocator keep what is freed: else the system gives pages anew for each text, whose zeroing takes up
-/// to half of the time, and less for short ones.
+/// Makes the allocator keep freed memory. Otherwise the system supplies new pages for each text.
+/// Filling them with zeros takes up to half of the time, and less for short texts.
 fn keep_memory() {
     const TRIM_THRESHOLD: i32 = -1;
     const MMAP_THRESHOLD: i32 = -3;
@@ -68,18 +68,18 @@ fn time(call: Call, text: &str, calls: usize) -> f64 {
 
 /// The least times of a shape, in nanoseconds.
 struct Least {
-    /// Of feeding each text, with splitting it.
+    /// The times of feeding each text, with splitting it.
     whole: [f64; 3],
-    /// Of splitting each text.
+    /// The times of splitting each text.
     split: [f64; 3],
-    /// Of a `parse` of one line that is a literal by itself.
+    /// The time of a `parse` of one line that is a literal by itself.
     alone: f64,
-    /// Of a `parse` of the longest text.
+    /// The time of a `parse` of the longest text.
     parse: f64,
 }
 
-/// The least times. All calls take turns, so that no text stays in the caches, and what else the machine does meets
-/// all of them.
+/// Returns the least times. All calls take turns, so no text stays in the caches, and other work of
+/// the machine affects all of them.
 fn least_of(texts: &[String; 3], line: &str) -> Least {
     let [whole, split] = [[f64::INFINITY; 3]; 2];
     let mut least = Least { whole, split, alone: f64::INFINITY, parse: f64::INFINITY };
@@ -94,8 +94,8 @@ fn least_of(texts: &[String; 3], line: &str) -> Least {
     least
 }
 
-/// Prints, of each shape, the time of a line where there are 10,000, 20,000 and 40,000, and of a line
-/// that is parsed as a literal by itself. The time that splitting the text takes is taken off.
+/// Prints for each shape the time per line of 10,000, 20,000 and 40,000 lines, without the time of
+/// splitting the text. Prints also the time of a line that is parsed as a literal by itself.
 pub fn main() {
     println!("\nNanoseconds a line of `feed` of 10,000, 20,000 and 40,000 lines of one literal, less those of splitting");
     println!("the text alone; by how much the whole, with splitting, grows at most by a step; a `parse` of one line alone");

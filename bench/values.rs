@@ -1,25 +1,25 @@
-//! Times the values of the numbers of sources: `litrs_value` beside Rust's `str::parse`, called as syn calls it, which
-//! cuts the suffix and removes the underscores first.
+//! Times the values of the numbers in sources: `litrs_value` beside Rust's `str::parse`. The latter
+//! is called as in syn, which cuts the suffix and removes the underscores first.
 
 use crate::{Call, answer, ours};
 use std::borrow::Cow;
 use std::hint::black_box;
 use std::time::Instant;
 
-/// The texts of a row at most, and the rounds over them.
+/// The greatest number of texts of a row, and the number of rounds over them.
 const TEXTS: usize = 20_000;
 const ROUNDS: usize = 200;
 
-/// No value.
+/// The result if there is no value.
 const NONE: u64 = u64::MAX;
 
-/// The text of `len` bytes from this address.
+/// Returns the text of `len` bytes at the address `text`.
 #[inline(always)]
 unsafe fn text<'a>(text: *const u8, len: usize) -> &'a str {
     unsafe { str::from_utf8_unchecked(std::slice::from_raw_parts(text, len)) }
 }
 
-/// The number of a float literal: all before its suffix, which begins with another letter than `e`.
+/// Returns a float literal without its suffix, which begins with another letter than `e`.
 #[inline(always)]
 fn number_part(text: &str) -> &str {
     let is_of_number = |byte: u8| matches!(byte, b'0'..=b'9' | b'.' | b'_' | b'e' | b'E' | b'+' | b'-');
@@ -27,26 +27,26 @@ fn number_part(text: &str) -> &str {
     &text[..len]
 }
 
-/// The text without its underscores, copied only where there is one.
+/// Returns the text without its underscores. Copies it only if there is one.
 #[inline(always)]
 fn without_underscores(text: &str) -> Cow<'_, str> {
     if text.bytes().any(|byte| byte == b'_') { Cow::Owned(text.replace('_', "")) } else { Cow::Borrowed(text) }
 }
 
-/// The bits of the value of a float literal.
+/// Returns the bits of the value of a float literal.
 unsafe extern "C" fn float(at: *const u8, len: usize) -> u64 {
     let number = without_underscores(number_part(unsafe { text(at, len) }));
     number.parse::<f64>().map_or(NONE, f64::to_bits)
 }
 
-/// Likewise, but always copied, as syn has its digits.
+/// Like [`float`], but always copies the digits, as syn does.
 unsafe extern "C" fn float_copied(at: *const u8, len: usize) -> u64 {
     let mut number = number_part(unsafe { text(at, len) }).to_string();
     number.retain(|c| c != '_');
     number.parse::<f64>().map_or(NONE, f64::to_bits)
 }
 
-/// The value of an integer literal without a suffix or with `u32`.
+/// Returns the value of an integer literal that has no suffix or the suffix `u32`.
 unsafe extern "C" fn integer(at: *const u8, len: usize) -> u64 {
     let text = unsafe { text(at, len) };
     let text = text.strip_suffix("u32").unwrap_or(text);
@@ -59,7 +59,7 @@ unsafe extern "C" fn integer(at: *const u8, len: usize) -> u64 {
     u32::from_str_radix(&without_underscores(digits), base).map_or(NONE, u64::from)
 }
 
-/// `str::parse` alone, of digits that need no change.
+/// Calls only `str::parse`, for digits that need no change.
 unsafe extern "C" fn float_alone(at: *const u8, len: usize) -> u64 {
     unsafe { text(at, len) }.parse::<f64>().map_or(NONE, f64::to_bits)
 }
@@ -68,7 +68,7 @@ unsafe extern "C" fn integer_alone(at: *const u8, len: usize) -> u64 {
     unsafe { text(at, len) }.parse::<u32>().map_or(NONE, u64::from)
 }
 
-/// The least nanoseconds a text of each call, the calls in turn.
+/// Returns the least nanoseconds per text of each call. The calls take turns.
 fn time<const N: usize>(texts: &[&str], calls: [Call; N]) -> [f64; N] {
     let mut least = [f64::INFINITY; N];
     for _ in 0..ROUNDS {
@@ -102,7 +102,7 @@ fn numbers(sources: &[String]) -> Vec<&str> {
     found
 }
 
-/// The name of a row, which literals it has, the call of ours and Rust's.
+/// The name of a row, a test for its literals, our call and Rust's.
 type Row = (&'static str, fn(&str) -> bool, Call, Call);
 
 const ROWS: &[Row] = &[
@@ -115,12 +115,12 @@ const ROWS: &[Row] = &[
     ("read::<u32>, beside str::parse alone", is_plain, ours::read_u32, integer_alone),
 ];
 
-/// Returns `true` if `str::parse` takes the text as it is.
+/// Returns `true` if `str::parse` accepts the text without a change.
 fn is_plain(text: &str) -> bool {
     text.bytes().all(|byte| matches!(byte, b'0'..=b'9' | b'.' | b'e' | b'E' | b'+' | b'-'))
 }
 
-/// Prints the rows of the numbers of the sources.
+/// Prints the rows of the numbers in the sources.
 pub fn main(name: &str, sources: &[String]) {
     let found = numbers(sources);
     println!("\nNanoseconds a number of {name} sources, by litrs_value and by Rust's str::parse.\n");

@@ -1,18 +1,18 @@
-//! A procedural macro that writes down the tokens that rustc reads in a row of a file: a letter and
-//! a length in bytes for each. `rustc.py` builds and calls it.
+//! A procedural macro that writes the tokens of rustc for a row of a file: a letter and a length in
+//! bytes for each. `rustc.py` builds and calls it.
 extern crate proc_macro;
 
 use proc_macro::{Delimiter, Spacing, TokenStream, TokenTree};
 use std::str::FromStr;
 
-/// Returns `true` if the tree is the brackets of `#[doc = ".."]`, as a documentation comment is
-/// given to a macro.
+/// Returns `true` if the tree is the brackets of `#[doc = ".."]`. A macro gets a documentation
+/// comment in this form.
 fn is_doc(tree: Option<&TokenTree>) -> bool {
     matches!(tree, Some(TokenTree::Group(group)) if group.stream().to_string().starts_with("doc ="))
 }
 
-/// Adds the tokens of the stream: `i` an identifier, `l` a literal, `t` a lifetime, `p` punctuation
-/// and `d` a documentation comment, which has no length here.
+/// Adds the tokens of the stream: `i` for an identifier, `l` for a literal, `t` for a lifetime, `p`
+/// for punctuation, and `d` for a documentation comment, which has no length here.
 fn add_tokens(stream: TokenStream, found: &mut Vec<String>) {
     let trees: Vec<TokenTree> = stream.into_iter().collect();
     let mut at = 0;
