@@ -25,9 +25,9 @@
  * - The written literal of a value is not parsed as the value.
  * - A cursor moves or a token is written although there is no token.
  *
- * A walk over a long text must read only three pages at each step: the page of its place, the next
- * one, and the last one, where it may read the last character. All other pages are protected, so a
- * step that reads them ends the program by a signal.
+ * At each step a walk over a long text must read only the page of its place, the next page and the
+ * last one. It may read the last page to know the last character. All other pages are protected, so
+ * a step that reads them ends the program by a signal.
  *
  * The program is linked with --wrap for malloc, realloc and free. */
 #define _DEFAULT_SOURCE
@@ -163,8 +163,8 @@ static size_t parse_into(const uint8_t *text, size_t len, litrs_answer *answer) 
     return 0;
 }
 
-/* Stops if a form that ends in _into differs from the form by value over an answer of zeros, or if
- * it changes a field of another answer that the status does not define. */
+/* Stops if a form that ends in _into differs from the form by value over an answer of zeros. Stops
+ * also if it changes a field of another answer that the status does not define. */
 static void hold_into(parses_into *call, const uint8_t *text, size_t len, litrs_prefix wanted) {
     litrs_prefix into;
     memset(&into, 0, sizeof into);

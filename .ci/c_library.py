@@ -20,11 +20,12 @@ The samples of crates/litrs_c/README.md are built and run by the lines of that p
 the block below them. Those in C are built as C++ too. Each text of crates/litrs_lexer/tokens must
 have the tokens of its row, and every text the same tokens from both. python_module.py has the other
 tests of the module. float_numbers.py draws numbers, many of them halfway between two floats. Each
-must have the double and the float nearest to it. A parse must take at most a tenth more
+must have the double and the float nearest to it. A parse must not take over a tenth more
 instructions than bench/figures.txt lists.
 
-Tests crates/litrs_c/build too: its help, wrong arguments, the files that it installs below DESTDIR
-and removes, the versions that pkg-config finds, and a folder that is moved to a name with a blank.
+Tests crates/litrs_c/build too: its help, wrong arguments, and the files that it installs below
+DESTDIR and removes. Tests the versions that pkg-config finds, and an installed folder that is moved
+to a name with a blank.
 """
 import concurrent.futures
 import ctypes
@@ -284,9 +285,13 @@ def wanted_of_prefixes(rows):
 
 
 def fields_of(line):
-    """Returns the fields that the C program printed for a text: those of `answer_of`, the statuses
-    if every allocation fails, the numbers of allocations, both for the literal at the front, the
-    results of litrs_f64 and litrs_f32, and the tokens."""
+    """Returns the fields that the C program printed for a text, in five groups:
+
+    - the fields of `answer_of`;
+    - the statuses if every allocation fails, and the numbers of allocations;
+    - both for the literal at the front;
+    - the results of litrs_f64 and litrs_f32;
+    - the tokens."""
     fields = [it if it.endswith(".") else int(it) for it in line.split()]
     *fields, walked = [it[:-1] if isinstance(it, str) else it for it in fields]
     return fields[:31] + fields[38:-10], fields[31:38], fields[-10:-8], fields[-8:], walked

@@ -10,8 +10,8 @@ calls of each of them, with their signatures. A call `Owner::call(..)` is of thi
 parameter is `name: Type` or `Type`, and `alloc` is `alloc: Global`. Lifetimes may be left out, and
 `..` in a return type is any part of it.
 
-Fails if a public type, variant, field or function is not listed or is listed twice, if a listed one
-is not public, or if a signature differs.
+Fails if a public type, variant, field or function is not listed, or is listed twice. Fails also if
+a listed one is not public, or if a signature differs.
 """
 import functools
 import re

@@ -6,13 +6,12 @@ uses_prompt fail in turn.
 
 Runs both builds of crates/litrs_lines_cli, which `rt ci` leaves in its out/, with reads and writes
 of at most 1, 3 and 4096 bytes. If none fails, all reports must be written. If a read fails, the
-output must be the reports of the lines that were read to their end, and if a write fails, a prefix
-of the reports. The message must name the device, and the status must be 1. An interrupted call is a
-failure.
+output must be the reports of the lines that were read to their end. If a write fails, it must be a
+prefix of the reports. The message must name the device, and the status must be 1. An interrupted
+call is a failure.
 
-The program's file `stdin`, and some groups of lines alone, must get their reports if the input and
-the output are moved in pieces of 1, 3 and 4096 bytes, and if the input is cut into two pieces at
-any byte.
+The program must also write all reports for its file `stdin` and for some groups of lines. It reads
+and writes these in pieces of 1, 3 and 4096 bytes, and reads each input cut into two at each byte.
 
 Runs both builds of crates/uses_prompt too. If its output is closed, it must end silently with
 status 0, and after another failure with a message and status 1. `--help` must not read a line, and

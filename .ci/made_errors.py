@@ -1,11 +1,11 @@
 #!/usr/bin/env python3
-"""Fails if code makes an allocation failure or a formatting failure of its own, or asks for memory
-by a number that is not known to be a length of the contents.
+"""Fails if code makes its own allocation or formatting failure. Fails also if it asks for memory by
+a number that is not known to be a length of the contents.
 
 Tests are exempt. Elsewhere every `AllocError` and every `fmt::Error` must come from the library. A
 failure is an `AllocError`, an `OutOfMemory`, or a variant that some `fn from(_: AllocError)` makes,
-such as `Memory`. It may occur in types, imports, clauses, declarations and patterns, beside `==`
-and `!=`, in the body of such a `from`, and in two more places:
+such as `Memory`. It may occur in types, imports, clauses, declarations and patterns, and beside
+`==` and `!=`. It may also occur in the body of such a `from`, and in two more places:
 
 - in the value of a one-line arm whose pattern is one failure, such as
   `ParseErrorKind::OutOfMemory => Err(AllocError),`;
@@ -22,9 +22,9 @@ Such a number must be a sum. Each term is a name, a length, a digit or `usize::f
 one of these times a digit. Such a line must not choose between two numbers. It must not have a
 greater number, except the greatest of a type to which a value is converted.
 
-On all other lines an argument of a call that allocates must not have a number above `LARGE`, a
-constant that is a number, or a repeated array. No other line may have a number that is as good as
-unbounded.
+On all other lines there must not be a number that is as good as unbounded. An argument of a call
+that allocates must not have a number above `LARGE`, a constant that is a number, or a repeated
+array there.
 
 Each comment is for the next line only. A comment above a line that does not need it is a fault.
 """
@@ -62,8 +62,8 @@ AMOUNT = rf"\s*{PART}(?: \+ {PART})*\s*"
 # is exempt.
 UNMEASURED = r"\b(if|match|while)\b|::MAX\b|(?<!\w)\d[\d_]+|\b0x|<<|\.pow\("
 NARROWED = r"\b\w+::try_from\(\w+\)\.unwrap_or\(\w+::MAX\)"
-# Lines on which such a number is not an amount of memory: the turns of a loop, a comparison, the
-# bounds of integer types, and a power of two.
+# Lines on which such a number is not an amount of memory. It may be the turns of a loop, in a
+# comparison, a bound of an integer type, or a power of two.
 NO_AMOUNT = (
     r"\s*(for \w+ in 0\.\.u64::MAX|if \w+ [<>]=? 1 << \d+) \{$"
     r"|\s*[\w.]+ [<>]=? 1 << \d+$|\s*1 << [a-z]\w*$"
@@ -262,7 +262,7 @@ class File:
                 self.say(number, "a number that may be too great")
 
     def look_at_failures(self, number, line):
-        """Adds a fault if this line makes a failure of its own."""
+        """Adds a fault if this line makes its own failure."""
         made = rf"{self.failures}|\bfmt::(\{{[^}}]*\b)?Error\b"
         if not re.search(made, line):
             return

@@ -1,7 +1,7 @@
 /* Measures the memory that a process holds at most. The process loads this by LD_PRELOAD.
  *
- * At its end the process writes a number to the file that PEAK names: the most bytes of the blocks
- * that were in use together, with the block sizes of the C library. */
+ * At its end the process writes the greatest number of bytes of all blocks in use to the file that
+ * PEAK names. The size of a block is that of malloc_usable_size. */
 #include <errno.h>
 #include <malloc.h>
 #include <stdio.h>

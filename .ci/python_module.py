@@ -1,9 +1,9 @@
 """Tests the Python module of the C library apart from the rows of the table.
 
-The tests are of its names and type hints, its errors, arguments of other types, the values of
-floats, the literals that it writes, and the calls of the library in a walk over tokens.
-.ci/c_library.py runs them over the installed module. The functions yield a fault, or `None` for a
-test that passes.
+Tests its names and type hints, its errors, arguments of other types, and the values of floats.
+Tests the literals that it writes, and the calls of the library in a walk over tokens.
+.ci/c_library.py runs these tests over the installed module. The functions yield a fault, or `None`
+for a test that passes.
 """
 import array
 import copy
@@ -152,8 +152,8 @@ def walked(module, text):
 
 
 def faults_of_walks(module):
-    """Yields a fault for each walk over a source that encodes it, checks it or reads a byte of it
-    more than once, and for tokens that change with the source or with another walk."""
+    """Yields a fault for each walk that encodes its source, checks it or reads a byte of it more
+    than once. Yields a fault too if tokens change with the source or with another walk."""
     for count in (1, 50, 400):
         for text in (SOURCE * count, (SOURCE * count).encode()):
             Counted.read = 0

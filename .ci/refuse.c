@@ -4,8 +4,8 @@
  * the second this one and all later ones. If REFUSED_ALONE is set, there is no second copy. Both
  * copies run to their end. A record of each copy is appended to the file that REFUSED names:
  *
- *     one 7 80 0 0 12   `one` or `all`, the number of the allocation, its bytes, the bytes that the
- *                       block had before, the status, and the number of bytes that follow
+ *     one 7 80 0 0 12   `one` or `all`, the number of the allocation, its bytes, the bytes of the
+ *                       old block, the status, and the number of bytes that follow
  *     1 rows hold..     the text on both standard outputs, and a line end
  *
  * The process itself then continues without a failure. */

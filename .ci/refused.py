@@ -22,12 +22,12 @@ Some rows are strings of each kind whose values have every length up to 300. A c
 buffer must ask for exactly the bytes of such a value, with the closing zero of a C string. For
 these rows there are no copies in which all later allocations fail.
 
-Last, each build runs without a failure on more rows, all of which must hold. These have texts with
-parts of every length below 512 and of some drawn lengths, and values that end in every number of
-escapes up to 130.
+Last, each build runs without a failure on more rows, all of which must hold. Some have texts with
+parts of every length below 512 and of drawn lengths. The others have values that end in every
+number of escapes up to 130.
 
-Fails if a copy does anything else, if an allocation of a call that is not listed below fails, or if
-none of a listed call fails. It also fails if a call allocates more often than this:
+Fails if a copy does anything else. Fails if an allocation of a call that is not listed below fails,
+or if none of a listed call fails. Fails also if a call allocates more often than this:
 
 - `feed`: once if a line is not a literal, and not at all for a line that fits the memory of a
   collector that was cleared;

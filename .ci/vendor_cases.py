@@ -23,8 +23,8 @@ OURS = {
     "crates/litrs/specs/Lib.antt": "-- litrs\n",
     "crates/litrs/wrong/a.edit": "file: src/lib.rt\n",
 }
-# The files of a repository with copies of an older version, a renamed copy, a crate of its own by
-# the name of a former crate of ours, and no line end after the last line.
+# The files of a repository with copies of an older version and a renamed copy. It has its own crate
+# by the name of a former crate of ours, and no line end after the last line.
 THEIRS = {
     "crates.txt": "# litrs: a\n litrs_low\nlitrs_own:\nlitrs_parts: litrs_low\nlitrs: a\napp: litrs",
     "crates/app/src/main.rt": "// app\n",

@@ -1,9 +1,11 @@
 #!/usr/bin/env python3
-"""Checks the comments of the crates against the conventions of Rust's API documentation, and the lengths of pages.
+"""Checks the comments of the crates by the conventions of Rust's documentation, and the lengths of
+pages.
 
-The summary of a function begins with a verb in the third person, or with a link to the function that it is like. No comment
-of `src/`, `specs/` and `proofs/` begins with a word of `RIDDLES` or has a construction of `FORBIDDEN`. No page is longer than `LENGTHS`
-allows. Prints each fault with its place, and the number of summaries and of pages.
+The summary of a function must begin with a verb in the third person, or with a link to the function
+that it is like. A comment of `src/`, `specs/` and `proofs/` must not begin with a word of
+`RIDDLES`, and must not have a construction of `FORBIDDEN`. A page must not be longer than `LENGTHS`
+allows. Prints each fault with its place, and the numbers of summaries and of pages.
 """
 import pathlib
 import re
@@ -12,17 +14,17 @@ import sys
 TOP = pathlib.Path(__file__).resolve().parent.parent
 FUNCTION = re.compile(r'\s*(?:pub(?:\(crate\))? )?(?:const |unsafe )*(?:extern "C" )?fn (\w+)')
 TYPE = re.compile(r"\s*pub (?:struct|enum|trait|type) (\w+)")
-# A verb in the third person, or `Like [`f`]`.
+# The start of a summary: a verb in the third person, or `Like [`f`]`.
 VERB = re.compile(r"(?:[A-Z][a-z]+s|Does not [a-z]+)\b|Like \[`")
 # Words that end like such a verb.
 NOUNS = {"This", "Its", "As", "Is", "Has", "Was", "Bytes", "Places", "Texts", "Lines", "Tokens", "Chars", "Literals"}
 # The first words of sentences without a main verb.
 RIDDLES = re.compile(r"(?:What|Whether|Where|Why|How|That|The same) ")
-# Constructions that a reader has to solve.
+# Constructions that are hard to understand.
 FORBIDDEN = re.compile(
     r"\bso many\b|\b[Tt]he same of\b|\bnone stands\b|(?<!there )\b(?:is|are) none\b|\bgoes on\b"
     r"|\bstands? (?:there|first|so|in|at|on|for|before|after|between)\b")
-# The greatest number of words of a page. Each answers one question of its readers.
+# The greatest number of words of each page.
 LENGTHS = {
     "README.md": 900,
     "CONTRIBUTING.md": 1100,
@@ -40,7 +42,7 @@ LENGTHS = {
 }
 # The greatest number of words of these pages together.
 ALL_PAGES = 24000
-# Lines of code, and the number of their faults.
+# Lines of code, each with the number of its faults.
 EXAMPLES = [
     ("/// Returns `true` if `text` is empty.\nfn is_empty(text: &str) -> bool", 0),
     ("/// Like [`parse`], for a text that starts with a digit.\nfn parse_number(text: &str)", 0),
@@ -54,7 +56,8 @@ EXAMPLES = [
 
 
 def comments(lines):
-    """The blocks of comment lines, each with its mark and the numbers of its first line and of the line after it."""
+    """Yields the blocks of comment lines, each with its mark, the number of its first line and that
+    of the line after it."""
     start = None
     for number, line in enumerate([*lines, ""]):
         mark = re.match(r"\s*(///|//!|//|--)( |$)", line)
@@ -66,18 +69,20 @@ def comments(lines):
 
 
 def prose(lines, mark):
-    """The text of a comment without its blocks of code."""
+    """Returns the text of a comment without its blocks of code."""
     text = "\n".join(line.strip()[len(mark):].strip() for line in lines)
     return " ".join(re.sub(r"^```.*?^```$", "", text, flags=re.M | re.S).split())
 
 
 def item_after(lines, number):
-    """The first line from this one on that is neither an attribute nor a comment of the code."""
+    """Returns the first line from `number` on that is neither an attribute nor a comment of the
+    code."""
     return next((it for it in lines[number:] if not re.match(r"\s*(#\[|//(?!/))", it)), "")
 
 
 def faults_of(lines):
-    """The faults of a file, each with its line, and the kinds of the items that have a summary."""
+    """Returns the faults of a file, each with its line, and the kinds of the items that have a
+    summary."""
     faults, kinds = [], []
     for mark, start, end in comments(lines):
         text = prose(lines[start:end], mark)
@@ -96,7 +101,7 @@ def faults_of(lines):
 
 
 def page_faults():
-    """The number of words of each page, and the lengths that are too great."""
+    """Returns the number of words of each page, and the faults of the pages that are too long."""
     words, faults = {}, []
     for name, most in LENGTHS.items():
         for path in sorted(TOP.glob(name)):

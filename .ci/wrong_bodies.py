@@ -6,8 +6,8 @@
     .ci/wrong_bodies.py --follow LOG          checks all, beside the `rt ci` that writes this log
 
 Runs at the top of the repository, after `rt ci`, over the libraries that it built. If no crate is
-named, the bodies of all crates are checked. With `--follow` the bodies of a crate are checked as
-soon as the log says that the crates below it are proved, over copies of their libraries. They then
+named, the bodies of all crates are checked. With `--follow` the bodies of a crate are checked once
+the log says that the crates below it are proved. These checks use copies of the libraries. They
 have the lowest priority, for processors that `rt ci` and the stages after it leave idle.
 
 A wrong body is a file `crates/CRATE/wrong/NAME.edit` of lines `file:`, `old:` and `new:`, as in
@@ -57,8 +57,8 @@ PLACE = re.compile(r"\bsrc/(\S+?\.rt):(\d+):\d+")
 # The checker's note on a goal that has no proof in proofs/ and that its search did not prove.
 NOTE = re.compile(r"note: src/(\S+?):(\d+):\d+: it is not proved that (.*)")
 OPEN = re.compile(r"no proof: .*?(`search` did not prove .*)")
-# The line of `rt ci` on a crate that is proved, in this run or in an earlier one, and the line that
-# `.ci/run` adds once it has ended.
+# The line of `rt ci` on a crate that is proved, in this run or in an earlier one. The second is the
+# line that `.ci/run` adds after `rt ci` has ended.
 PROVED = re.compile(r"(?m)^rt: (\w+) (?:proved|is kept)\b")
 ENDED = "rt ci has ended\n"
 # The root file of a program, and of the library that its copy is.
@@ -111,9 +111,9 @@ def is_empty(line):
 
 
 def owner_at(text, offset):
-    """Returns the impl or trait around a place of a source file, and the function, constant or
-    ghost member that contains the place or has the attribute there. Each is `None` if there is
-    none."""
+    """Returns the impl or trait around a place of a source file. Returns also the function,
+    constant or ghost member that contains the place or has the attribute there. Each is `None` if
+    there is none."""
     end = text.find("\n", offset)
     while text[text.rfind("\n", 0, end) + 1 : end].lstrip().startswith("#["):
         end = text.find("\n", end + 1)
@@ -149,8 +149,9 @@ def functions_of(file, lines):
 
 
 def body_of(lines, start):
-    """Returns the numbers of the first line of the body of the function at line `start` and of the
-    line after the body, in the layout of `rt fmt`. Returns `None` if the body has no lines."""
+    """Returns the number of the first line of a function's body, and that of the line after it. The
+    function begins at line `start`, in the layout of `rt fmt`. Returns `None` if the body has no
+    lines."""
     indent = FUNCTION.match(lines[start])["indent"]
     for number in range(start, len(lines)):
         line = lines[number].rstrip("\n")

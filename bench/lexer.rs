@@ -1,5 +1,5 @@
-//! Times the tokens of Rust sources beside rustc_lexer: all tokens of the sources in turn, and the
-//! tokens of each kind, each cut from its own place. Both return the kind and the length of a
+//! Times the tokens of Rust sources beside rustc_lexer: first all tokens of the sources in turn,
+//! then the tokens of each kind, each from its own place. Both return the kind and the length of a
 //! token. rustc_lexer does not test escapes, digits and suffixes.
 
 use crate::{Call, answer, corpus, ours};

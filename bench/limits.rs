@@ -150,7 +150,8 @@ unsafe extern "C" fn copied(text: *const u8, len: usize) -> u64 {
     black_box(unsafe { text_at(text, len) }.to_string()).len() as u64
 }
 
-/// Returns the place of the suffix of a raw string whose body does not contain a quote.
+/// Returns one more than the length of the suffix of a raw string whose body does not contain a
+/// quote. Returns 0 for any other text.
 unsafe extern "C" fn raw_end(text: *const u8, len: usize) -> u64 {
     let text = unsafe { text_at(text, len) };
     let rest = text[1..].trim_start_matches('#');
@@ -309,10 +310,9 @@ unsafe extern "C" fn number_parts(text: *const u8, len: usize) -> u64 {
     (integer + (end << 8) + ((len - end) << 16)) as u64
 }
 
-/// Returns the first result for a literal of any kind. For a number this is the lengths of its
-/// parts, for a bool which one it is, and for a quoted literal with a backslash the length of its
-/// value. For a raw string it is the length of the suffix, and for any other text the place of the
-/// closing quote.
+/// Returns a first result for a literal of any kind. That is the result of [`number_parts`],
+/// [`which_bool`] or [`raw_end`] for these kinds, and of [`unescaped`] for a literal with a
+/// backslash. For any other text it is the place of the closing quote after the opening one.
 unsafe extern "C" fn parts_by_kind(text: *const u8, len: usize) -> u64 {
     let bytes = unsafe { text_at(text, len) }.as_bytes();
     let front = match bytes {

@@ -16,7 +16,7 @@ is a table with three parts:
   digits in base ten.
 
 Prints the reads that differ. Fails if there are others than `-0` as an unsigned type, which rustc
-rejects. It is run by hand, since the gate does not need a Rust compiler.
+rejects. Run this by hand: the gate does not need a Rust compiler.
 """
 import fractions
 import json

@@ -4,11 +4,12 @@
     bench/written.py [FORMATTER]
 
 FORMATTER is the program uses_formatter, which `rt run` leaves in crates/uses_formatter/out/. Its
-input has chars, strings, byte strings and C strings that consist of numeric escapes, and raw
-strings of each kind with more hashes than they need. A Rust program compares each literal of its
-output with its value. That program is compiled with every warning an error. This includes the
-lints on text that changes direction. It is run by hand, since the gate does not need a Rust
-compiler.
+input has chars, strings, byte strings and C strings that consist of numeric escapes. It also has
+raw strings of each kind with more hashes than they need. A Rust program compares each literal of
+the output with its value. That program is compiled with every warning an error. This includes the
+lints on text that changes direction.
+
+Run this by hand: the gate does not need a Rust compiler.
 """
 import pathlib
 import random

@@ -11,8 +11,8 @@ fn is_doc(tree: Option<&TokenTree>) -> bool {
     matches!(tree, Some(TokenTree::Group(group)) if group.stream().to_string().starts_with("doc ="))
 }
 
-/// Adds the tokens of the stream: `i` for an identifier, `l` for a literal, `t` for a lifetime, `p`
-/// for punctuation, and `d` for a documentation comment, which has no length here.
+/// Adds the tokens of the stream. The letters are `i` (identifier), `l` (literal), `t` (lifetime),
+/// `p` (punctuation) and `d` (documentation comment, which has no length here).
 fn add_tokens(stream: TokenStream, found: &mut Vec<String>) {
     let trees: Vec<TokenTree> = stream.into_iter().collect();
     let mut at = 0;
