@@ -20,7 +20,7 @@ The samples of crates/litrs_c/README.md are built and run by the lines of that p
 the block below them. Those in C are built as C++ too. Each text of crates/litrs_lexer/tokens must
 have the tokens of its row, and every text the same tokens from both. python_module.py has the other
 tests of the module. float_numbers.py draws numbers, many of them halfway between two floats. Each
-must have the double and the float nearest to it. A parse must not take over a tenth more
+must have the double and the float nearest to it. A parse must take at most a tenth more
 instructions than bench/figures.txt lists.
 
 Tests crates/litrs_c/build too: its help, wrong arguments, and the files that it installs below

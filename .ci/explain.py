@@ -6,14 +6,14 @@
 Runs both builds of crates/litrs_explain, which `rt ci` leaves in its out/, or the programs given:
 
 - JSON, with the values that Python has;
-- any text, with the places that Python counts and the tokens of rustc; comments;
+- any text, with the places that Python counts and the tokens of rustc, and comments;
 - literals and comments of many lines, in a time in proportion to their length;
 - colors, which change nothing else;
 - files, the standard input and texts, in each order, one of which cannot be read;
 - wrong arguments, and bytes that are not UTF-8, in a line and in an argument;
 - outputs that are closed or full, an input that fails, and a terminal;
-- a long text, of which the program holds no more than its longest literal;
-- a long line, of which the program holds no report;
+- a long text, of which the program must hold at most its longest literal;
+- a long line, whose reports the program must not hold;
 - a long line with many errors. Each is shown at its place, in a time that depends only on the text
   around it.
 

@@ -35,7 +35,7 @@ fn number_of(high: u64, low: u64) -> u128 {
     (u128::from(high) << 64) | u128::from(low)
 }
 
-/// Formats an integer with Rust's `to_string`, which uses the method of the crate itoa.
+/// Formats an integer with Rust's `to_string`, which formats like the crate itoa.
 unsafe extern "C" fn display(high: u64, low: u64) -> u64 {
     let text = if high == 0 { low.to_string() } else { number_of(high, low).to_string() };
     black_box(text).len() as u64

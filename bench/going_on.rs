@@ -1,4 +1,5 @@
-//! Times `goes_on` beside `parse` of the same texts, and both over hostile texts of twice the size.
+//! Times `goes_on` beside `parse` of the same texts, and both over hostile texts of one size and of
+//! twice that size.
 
 use crate::{Call, answer, ours};
 use std::hint::black_box;

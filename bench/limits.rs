@@ -136,7 +136,8 @@ unsafe extern "C" fn quote_place(text: *const u8, len: usize) -> u64 {
     text[1..].find('\'').unwrap_or(len) as u64
 }
 
-/// Returns the place of the closing quote of a quoted string without backslash and CR, byte by byte.
+/// Searches byte by byte for the closing quote of a quoted string without backslash and CR. Returns
+/// its place, or 0 for any other text.
 unsafe extern "C" fn closing_quote(text: *const u8, len: usize) -> u64 {
     let body = &unsafe { text_at(text, len) }.as_bytes()[1..];
     match body.iter().position(|byte| matches!(byte, b'"' | b'\\' | b'\r')) {

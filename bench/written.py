@@ -1,5 +1,5 @@
 #!/usr/bin/env python3
-"""Compiles literals that litrs_build writes with rustc, and compares their values.
+"""Compiles with rustc the literals that litrs_build writes, and compares their values.
 
     bench/written.py [FORMATTER]
 
