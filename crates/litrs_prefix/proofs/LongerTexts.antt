@@ -1,6 +1,5 @@
 -- A literal at the front of a text, and of longer ones.
-use Rattle.std.proofs.Common.{◌≡◌, ℕ, true, List, ◌∷◌, ◌++◌, sym, ap, ◌∙◌, append_assoc, append-nil, arith}
-use Rattle.litrs_prefix.specs.Words.{Derivation, may_follow, LiteralsAreTheirPrefix, PrefixesStay}
+use Rattle.litrs_prefix.proofs.Words.{◌≡◌, ℕ, true, List, ◌∷◌, ◌++◌, sym, ap, ◌∙◌, append_assoc, append-nil, arith, Derivation, may_follow, LiteralsAreTheirPrefix, PrefixesStay}
 
 pub whole : LiteralsAreTheirPrefix
 whole t d h = record { front = t; spells = append-nil t; literal = h; follows = grind arith }

@@ -1,58 +1,38 @@
 -- The bytes of the source can be cut at the places that an error at the front of a text marks.
-use Rattle.std.proofs.Common.{◌≡◌, ℕ, ◌+◌, ◌≤◌, List, ◌++◌, length, take, drop, Option, Some, None, IfSome, IsUtf8, inl, inr, refl, sym, ap, subst, ◌∙◌, length-drop, arith}
-use Rattle.litrs_prefix.specs.Words.{chars, IsCharBoundary, byte_len, literal_parse, IsMalformedOrOutOfMemory, IsMovedBy, IsMarkedAt, slice_index, option_map, unwrap_or, Refusal, char_span_of, refusal_of, shifted_span, ParseError, IsRefusedOrOutOfMemory, MalformedPrefix, prefix_span}
+use Rattle.litrs_prefix.proofs.Words.{◌≡◌, ℕ, ◌+◌, ◌≤◌, List, ◌++◌, length, take, drop, Option, Some, None, IfSome, IsUtf8, inl, inr, refl, sym, ap, subst, ◌∙◌, length-drop, arith, chars, IsCharBoundary, byte_len, literal_parse, IsMalformedOrOutOfMemory, IsMovedBy, IsMarkedAt, slice_index, option_map, unwrap_or, Refusal, char_span_of, refusal_of, shifted_span, ParseError, IsRefusedOrOutOfMemory, MalformedPrefix, prefix_span, length-take-le, IsUtf8-drop, IsUtf8-take, IsCharBoundary-start, cut_at}
 use Rattle.std.specs.declared.ops.Range.{Range}
-use Rattle.std.proofs.lemmas.Bool.{cases_lt}
-use Rattle.std.proofs.lemmas.List.{get_or-take, length-take-le}
-use Rattle.std.proofs.lemmas.Str.{IsUtf8-drop, IsUtf8-take, IsCharBoundary-start, IsCharBoundary-from_rest}
+use Rattle.std.proofs.Common.{add_comm}
+use Rattle.std.proofs.lemmas.List.{get_or-take}
+use Rattle.std.proofs.lemmas.Str.{IsCharBoundary-from_rest}
 use Rattle.litrs_base.specs.CharEnd.{PointsAtCharacters, IsCutBy}
 use Rattle.litrs_base.proofs.CharEnds.{points_cut}
-use Rattle.litrs_lex.proofs.CharCuts.{cut_at}
 use Rattle.litrs_prefix.proofs.Ends.{front_is}
 
 -- a place of the front is a place of the text
 boundary_in : (bs : List ℕ) (n i : ℕ) → IsCharBoundary bs n → i ≤ n → IsCharBoundary (take n bs) i → IsCharBoundary bs i
-boundary_in bs n i end fits cut =
-    let size : length (take n bs) ≡ n = length-take-le n bs end.0 in
-    elim (cases_lt i n) [
-      | inl less ↦ (
-        omega (arith, end.0),
-        λ within high. (
-            let same : slice_index (take n bs) i ≡ slice_index bs i = get_or-take n bs i 0 less in
-            let h = cut.1 (omega (arith, size, less)) (omega (arith, same, high)) in
-            omega (arith, same, h)),
-      )
-      | inr more ↦ (let same : n ≡ i = omega (arith, more, fits) in subst (λ (k : ℕ). IsCharBoundary bs k) same end)
-    ]
+boundary_in bs n i end fits cut = grind (arith, get_or-take n bs i 0, length-take-le n bs end.0)
 
 pub cut_in : (bs : List ℕ) (n : ℕ) (span : Range ℕ) → IsCharBoundary bs n → IsCutBy (take n bs) span → IsCutBy bs span
 cut_in bs n span end cut =
     let size : length (take n bs) ≡ n = length-take-le n bs end.0 in
-    let within = cut.within in
-    let order = cut.in_order in
     record {
-      start = boundary_in bs n span.start end (omega (arith, size, within, order)) cut.start;
-      end = boundary_in bs n span.end end (omega (arith, size, within)) cut.end;
-      in_order = order;
-      within = omega (arith, size, within, end.0);
+      start = boundary_in bs n span.start end (omega arith) cut.start;
+      end = boundary_in bs n span.end end (omega arith) cut.end;
+      in_order = cut.in_order;
+      within = omega arith;
     }
 
 -- places of what follows `start` bytes
 place_after : (bs : List ℕ) (start i : ℕ) → start ≤ length bs → IsCharBoundary (drop start bs) i → IsCharBoundary bs (i + start)
-place_after bs start i fits cut =
-    let same : start + i ≡ i + start = omega arith in
-    subst (λ (k : ℕ). IsCharBoundary bs k) same (IsCharBoundary-from_rest bs start i fits cut)
+place_after bs start i fits cut = rw (add_comm i start) (IsCharBoundary-from_rest bs start i fits cut)
 
 cut_after : (bs : List ℕ) (start : ℕ) (span : Range ℕ) → start ≤ length bs → IsCutBy (drop start bs) span → IsCutBy bs (record { start = span.start + start; end = span.end + start })
-cut_after bs start span fits cut =
-    let within = cut.within in
-    let order = cut.in_order in
-    record {
-      start = place_after bs start span.start fits cut.start;
-      end = place_after bs start span.end fits cut.end;
-      in_order = omega (arith, order);
-      within = omega (arith, within, fits, length-drop start bs);
-    }
+cut_after bs start span fits cut = record {
+  start = place_after bs start span.start fits cut.start;
+  end = place_after bs start span.end fits cut.end;
+  in_order = omega arith;
+  within = omega (arith, length-drop start bs);
+}
 
 -- a span in a front of what follows, moved; or the front, if there is no span
 span_cut : (bs front rest : List ℕ) (start : ℕ) (piece : Range ℕ) (o p : Option (Range ℕ)) → IsUtf8 bs → IsCharBoundary bs start → front ++ rest ≡ chars (drop start bs) →

@@ -1,15 +1,11 @@
 -- Answers that more text changes, and those that stay.
-use Rattle.std.proofs.Common.{◌≡◌, ◌⊎◌, inl, inr, eqb, ltb, ℕ, Bool, true, false, ◌||◌, List, [], ◌∷◌, ◌++◌, length, length-append, refl, sym, ap, subst, ◌∙◌, append_assoc, append-nil, arith}
-use Rattle.litrs_prefix.specs.Words.{codes, is_ascii_digit, list_all, chars, IsUtf8, first_passes, is_empty, bool_text, is_bool, Derivation, a_bool, literal_parse, is_quote, PrefixGoesOn, MalformedStay, AnswerStays, AnswerChanges, OpensNever, OpensLater, is_open_prefix, is_open_front, is_quoted_line_feed, after_opened, first_name, after_name, after_hashes, begins_lifetime, opens_raw, opens_bytes, opens_c_string, opens, may_follow, HasPrefix, HasNoPrefix, pointwise, is_scalar, IsText, is_text, Begins, first_run}
+use Rattle.litrs_prefix.proofs.Words.{◌≡◌, ◌⊎◌, inl, inr, eqb, ltb, ℕ, Bool, true, false, ◌||◌, List, [], ◌∷◌, ◌++◌, length, length-append, refl, sym, ap, subst, ◌∙◌, append_assoc, append-nil, arith, codes, is_ascii_digit, list_all, chars, IsUtf8, first_passes, is_empty, bool_text, is_bool, Derivation, a_bool, literal_parse, is_quote, PrefixGoesOn, MalformedStay, AnswerStays, AnswerChanges, OpensNever, OpensLater, is_open_prefix, is_open_front, is_quoted_line_feed, after_opened, first_name, after_name, after_hashes, begins_lifetime, opens_raw, opens_bytes, opens_c_string, opens, may_follow, HasPrefix, HasNoPrefix, pointwise, is_scalar, IsText, is_text, Begins, first_run, and_parts, and_left, or_right, cases_Bool, true≢false, false≢true, false_from_ne_true, nat_tests, append_cancel_left, list_all-append, is_xid_start-ascii, some_bool}
 use Rattle.litrs_base.proofs.Chars.{is_text-chars}
-use Rattle.std.proofs.lemmas.Bool.{and_parts, and_left, or_right, or_cases, cases_Bool, true≢false, false≢true, false_from_ne_true}
-use Rattle.std.proofs.lemmas.Bool.Decides.{nat_tests}
-use Rattle.std.proofs.lemmas.List.{append_cancel_left}
-use Rattle.std.proofs.lemmas.List.Folds.{list_all-append}
-use Rattle.unicode_ident.proofs.IdentLemmas.{is_xid_start-ascii}
-use Rattle.litrs_grammar.proofs.Laws.Literal.{is_text-is, some_bool}
+use Rattle.std.proofs.lemmas.Bool.{or_cases, or_parts}
+use Rattle.litrs_grammar.proofs.Laws.Literal.{is_text-is}
 use Rattle.litrs_prefix.specs.MayChange.{Answer, none, literal, malformed, IsMalformedFront, IsAnswer}
-use Rattle.litrs_prefix.proofs.Names.{quote_stops}
+use Rattle.litrs_prefix.proofs.Names.{quote_stops, Opening, opening}
+use Rattle.litrs_prefix.proofs.Names.Opening.{digit, double, single, raw, bytes, c_string, word_true, word_false}
 use Rattle.litrs_prefix.proofs.LongerTexts.{whole, stays}
 use Rattle.litrs_prefix.proofs.Opened.{opened}
 use Rattle.litrs_prefix.proofs.MeantEnds.{letter_is_taken, opened_stays, raw_stays, lifetime_stays, name_kept, run_whole, x_goes_on, x_begins}
@@ -85,10 +81,14 @@ malformed_longer t m front h left absent is = record {
 }
 
 pub malformed_stays : (t : List ℕ) → opens t ≡ true → HasNoPrefix t → (PrefixGoesOn t → ⊥) → is_empty (after_opened t) ≡ false → is_quoted_line_feed t ≡ false → AnswerStays t
-malformed_stays t h absent ends some other = go
+malformed_stays t h absent ends some other none m text is = absurd (true≢false (sym h ∙ is))
+malformed_stays t h absent ends some other (literal d front) m text is = absurd (absent d is.0 is.2)
+malformed_stays t h absent ends some other (malformed front) m text is =
+    let longer = opened_stays t m h other some in
+    malformed_longer t m front longer.0 longer.1 never is
   where
-    never : (m : List ℕ) → IsText m → HasNoPrefix (t ++ m)
-    never m text d rest found = ends (record {
+    never : HasNoPrefix (t ++ m)
+    never d rest found = ends (record {
       unsettled = λ s. absent s.0 (s.1 ∷ s.2) s.3;
       more = m;
       is_text = text;
@@ -96,11 +96,6 @@ malformed_stays t h absent ends some other = go
       rest = rest;
       found = found;
     })
-
-    go : (answer : Answer) (m : List ℕ) → IsText m → IsAnswer t answer → IsAnswer (t ++ m) answer
-    go none m text is = absurd (true≢false (sym h ∙ is))
-    go (literal d front) m text is = absurd (absent d is.0 is.2)
-    go (malformed front) m text is = (let longer = opened_stays t m h other some in malformed_longer t m front longer.0 longer.1 (never m text) is)
 
 -- its length and its error
 pub malformed_stay : MalformedStay
@@ -127,18 +122,16 @@ malformed_stay t more e stay text is =
 
 -- a literal
 
-pub literal_stays : (t : List ℕ) (d : Derivation) (c : ℕ) (rest : List ℕ) → HasPrefix t d (c ∷ rest) → AnswerStays t
-literal_stays t d c rest at = go
-  where
-    go : (answer : Answer) (m : List ℕ) → IsText m → IsAnswer t answer → IsAnswer (t ++ m) answer
-    go none m text is = absurd (true≢false (sym (opened t d (c ∷ rest) at) ∙ is))
-    go (literal e front) m text is =
-        let same = unique t e d is.0 (c ∷ rest) is.2 at in (
-          is.0 ++ m,
-          sym (append_assoc front is.0 m) ∙ ap (λ (l : List ℕ). l ++ m) is.1,
-          subst (λ (l : List ℕ). HasPrefix (t ++ m) e (l ++ m)) (sym same.1) (stays t e c rest m (subst (λ (l : List ℕ). HasPrefix t e l) same.1 is.2)),
-        )
-    go (malformed front) m text is = absurd (is.none d (c ∷ rest) at)
+pub literal_stays : (t : List ℕ) (d : Derivation) (rest : List ℕ) → is_empty rest ≡ false → HasPrefix t d rest → AnswerStays t
+literal_stays t d [] some at answer m text is = absurd (true≢false some)
+literal_stays t d (c ∷ rest) some at none m text is = absurd (true≢false (sym (opened t d (c ∷ rest) at) ∙ is))
+literal_stays t d (c ∷ rest) some at (literal e front) m text is =
+    let same = unique t e d is.0 (c ∷ rest) is.2 at in (
+      is.0 ++ m,
+      sym (append_assoc front is.0 m) ∙ ap (λ (l : List ℕ). l ++ m) is.1,
+      rw same.1 (stays t e c rest m (rw same.1 at is.2)),
+    )
+literal_stays t d (c ∷ rest) some at (malformed front) m text is = absurd (is.none d (c ∷ rest) at)
 
 -- no literal ends before a letter
 pub letter_follows_none : (d : Derivation) → may_follow d (120 ∷ []) ≡ false
@@ -167,12 +160,9 @@ none_changes t h later = (later.0, later.1, go)
     go (malformed front) is longer = true≢false (sym is.opens ∙ h)
 
 pub none_stays : (t : List ℕ) → opens t ≡ false → OpensNever t → AnswerStays t
-none_stays t h never = go
-  where
-    go : (answer : Answer) (m : List ℕ) → IsText m → IsAnswer t answer → IsAnswer (t ++ m) answer
-    go none m text is = never m text
-    go (literal d front) m text is = absurd (true≢false (sym (opened t d is.0 is.2) ∙ h))
-    go (malformed front) m text is = absurd (true≢false (sym is.opens ∙ h))
+none_stays t h never none m text is = never m text
+none_stays t h never (literal d front) m text is = absurd (true≢false (sym (opened t d is.0 is.2) ∙ h))
+none_stays t h never (malformed front) m text is = absurd (true≢false (sym is.opens ∙ h))
 
 pub begins_later : (t : List ℕ) → Begins literal_parse t → OpensLater t
 begins_later t b = (b.0, b.2, opened (t ++ b.0) b.1 [] (whole (t ++ b.0) b.1 b.3))
@@ -204,8 +194,8 @@ quotes_open c t h = grind (arith, nat_tests, quoted_name t, raw_later t, bytes_l
 pub front_later : (t : List ℕ) → is_open_front t ≡ true → OpensLater t
 front_later [] h = absurd (false≢true h)
 front_later (c ∷ t) h = elim (quotes_open c t h) [
-  | inl single ↦ (39 ∷ [], refl, single)
-  | inr double ↦ (34 ∷ [], refl, double)
+  | inl is ↦ (39 ∷ [], refl, is)
+  | inr is ↦ (34 ∷ [], refl, is)
 ]
 
 -- if neither, none begins later
@@ -228,44 +218,24 @@ bytes_opened t m h g = grind (arith, raw_stays)
 c_opened : (t m : List ℕ) → is_open_prefix t ≡ false → opens_c_string (t ++ m) ≡ true → opens_c_string t ≡ true
 c_opened t m h g = grind (arith, raw_stays)
 
-single_shorter : (c : ℕ) (t m : List ℕ) → is_open_front (c ∷ t) ≡ false → c ≡ 39 → begins_lifetime (t ++ m) ≡ false → opens (c ∷ t) ≡ true
-single_shorter c t m front is h = grind (arith, nat_tests, lifetime_stays t m)
-
-raw_shorter : (c : ℕ) (t m : List ℕ) → is_open_front (c ∷ t) ≡ false → c ≡ 114 → opens_raw (t ++ m) ≡ true → opens (c ∷ t) ≡ true
-raw_shorter c t m front is h = grind (arith, nat_tests, raw_stays t m)
-
-bytes_shorter : (c : ℕ) (t m : List ℕ) → is_open_front (c ∷ t) ≡ false → c ≡ 98 → opens_bytes (t ++ m) ≡ true → opens (c ∷ t) ≡ true
-bytes_shorter c t m front is h = grind (arith, nat_tests, bytes_opened t m)
-
-c_shorter : (c : ℕ) (t m : List ℕ) → is_open_front (c ∷ t) ≡ false → c ≡ 99 → opens_c_string (t ++ m) ≡ true → opens (c ∷ t) ≡ true
-c_shorter c t m front is h = grind (arith, nat_tests, c_opened t m)
-
--- the ways in which a literal begins
-abbrev Ways : ℕ → List ℕ → Type 0
-Ways c t =
-    (is_ascii_digit c ≡ true) ⊎ ((c ≡ 34) ⊎ (((c ≡ 39) × (begins_lifetime t ≡ false)) ⊎ (((c ≡ 114) × (opens_raw t ≡ true))
-    ⊎ (((c ≡ 98) × (opens_bytes t ≡ true)) ⊎ (((c ≡ 99) × (opens_c_string t ≡ true)) ⊎ (is_bool (first_name (c ∷ t)) ≡ true))))))
-
-ways : (c : ℕ) (t : List ℕ) → opens (c ∷ t) ≡ true → Ways c t
-ways c t h = grind (arith, nat_tests)
-
--- unless the name at the front becomes a bool
-pub opens_unless_bool : (c : ℕ) (t m : List ℕ) → opens (c ∷ t) ≡ false → is_open_front (c ∷ t) ≡ false →
-    (is_bool (first_name (c ∷ (t ++ m))) ≡ true → is_bool (first_name (c ∷ t)) ≡ true) → opens (c ∷ (t ++ m)) ≡ false
-opens_unless_bool c t m h front bool = false_from_ne_true (opens (c ∷ (t ++ m))) (λ longer. true≢false (sym (shorter (ways c (t ++ m) longer)) ∙ h))
-  where
-    shorter : Ways c (t ++ m) → opens (c ∷ t) ≡ true
-    shorter (inl is) = rw is refl
-    shorter (inr (inl is)) = rw is refl
-    shorter (inr (inr (inl is))) = single_shorter c t m front is.0 is.1
-    shorter (inr (inr (inr (inl is)))) = raw_shorter c t m front is.0 is.1
-    shorter (inr (inr (inr (inr (inl is))))) = bytes_shorter c t m front is.0 is.1
-    shorter (inr (inr (inr (inr (inr (inl is)))))) = c_shorter c t m front is.0 is.1
-    shorter (inr (inr (inr (inr (inr (inr is)))))) = or_right _ _ (bool is)
+-- a literal begins with the shorter text too, unless the name at the front becomes a bool
+opens_shorter : (c : ℕ) (t m : List ℕ) → Opening (c ∷ (t ++ m)) → is_open_front (c ∷ t) ≡ false →
+    (is_bool (first_name (c ∷ (t ++ m))) ≡ true → is_bool (first_name (c ∷ t)) ≡ true) → opens (c ∷ t) ≡ true
+opens_shorter c t m (digit h) front bool = rw h refl
+opens_shorter c t m double front bool = refl
+opens_shorter c t m (single h) front bool =
+    let none = or_parts (is_empty (after_name t)) false (or_parts (is_empty (after_name t) || false) false front).0 in
+    rw (sym (lifetime_stays t m none.0) ∙ h) refl
+opens_shorter c t m (raw h) front bool = rw (sym (raw_stays t m (or_parts (is_empty (after_hashes t)) false front).0) ∙ h) refl
+opens_shorter c t m (bytes h) front bool = rw (bytes_opened t m front h) refl
+opens_shorter c t m (c_string h) front bool = rw (c_opened t m front h) refl
+opens_shorter c t m (word_true h) front bool = bool h
+opens_shorter c t m (word_false h) front bool = bool h
 
 pub opens_never : (t : List ℕ) → opens t ≡ false → (Begins literal_parse t → ⊥) → is_open_front t ≡ false → OpensNever t
 opens_never [] h absent front m text = absurd (absent (bool_text true, a_bool true, refl, refl))
-opens_never (c ∷ t) h absent front m text = opens_unless_bool c t m h front bool
+opens_never (c ∷ t) h absent front m text =
+    false_from_ne_true _ (λ longer. true≢false (sym (opens_shorter c t m (opening _ longer) front bool) ∙ h))
   where
     bool : is_bool (first_name (c ∷ (t ++ m))) ≡ true → is_bool (first_name (c ∷ t)) ≡ true
     bool g = elim (cases_Bool (is_empty (after_name (c ∷ t)))) [

@@ -1,12 +1,5 @@
 -- Texts that more text may give another literal at the front.
-use Rattle.std.proofs.Common.{◌≡◌, ◌⊎◌, inl, inr, ℕ, Bool, true, false, List, [], ◌∷◌, ◌++◌, refl, sym, ap, subst, ◌∙◌, append_assoc, arith}
-use Rattle.litrs_prefix.specs.Words.{list_all, is_empty, IntegerParts, IsIntegerOf, Derivation, an_integer, IsLiteral, literal_parse, starts_identifier, may_follow, HasPrefix, PrefixGoesOn, IsIntegerAndPeriod, is_scalar, IsText, Begins}
-use Rattle.std.proofs.lemmas.Bool.{and_parts, true≢false}
-use Rattle.std.proofs.lemmas.Bool.Decides.{nat_tests}
-use Rattle.std.proofs.lemmas.List.{append_cancel_left, append_cancel_right}
-use Rattle.std.proofs.lemmas.List.Folds.{list_all-append}
-use Rattle.unicode_ident.proofs.IdentLemmas.{is_xid_start-ascii}
-use Rattle.litrs_grammar.proofs.LongerTexts.Suffix.{front_of}
+use Rattle.litrs_prefix.proofs.Words.{◌≡◌, ◌⊎◌, inl, inr, ℕ, Bool, true, false, List, [], ◌∷◌, ◌++◌, refl, sym, ap, subst, ◌∙◌, append_assoc, arith, list_all, is_empty, IntegerParts, IsIntegerOf, Derivation, an_integer, IsLiteral, literal_parse, starts_identifier, may_follow, HasPrefix, PrefixGoesOn, IsIntegerAndPeriod, is_scalar, IsText, Begins, and_parts, true≢false, nat_tests, append_cancel_left, append_cancel_right, list_all-append, is_xid_start-ascii, front_of}
 use Rattle.litrs_prefix.specs.GoesOn.{IsSettled}
 use Rattle.litrs_prefix.proofs.LongerTexts.{whole, stays}
 use Rattle.litrs_prefix.proofs.Unique.{unique}
@@ -26,31 +19,31 @@ by_more (an_integer d) x m more h g = let p = taken_period d x m more h g in (d,
 by_more d x m more h g = absurd (true≢false (sym h ∙ g))
 
 -- a longer text with a literal at its front
-goes_on_by : (t more : List ℕ) (d : Derivation) (rest : List ℕ) → (IsSettled t → ⊥) → IsText more → HasPrefix (t ++ more) d rest → Begins literal_parse t ⊎ IsIntegerAndPeriod t
-goes_on_by t more d rest unsettled text at = elim (front_of at.front t rest more at.spells) [
+pub goes_on_either : (t : List ℕ) → PrefixGoesOn t → Begins literal_parse t ⊎ IsIntegerAndPeriod t
+goes_on_either t h = elim (front_of at.front t h.rest h.more at.spells) [
   | inl (m, is) ↦ (
-      let left = append_cancel_left t (m ++ rest) more (sym (append_assoc t m rest) ∙ (ap (λ (l : List ℕ). l ++ rest) (sym is) ∙ at.spells)) in
-      inl (m, d, text_of m rest (subst (λ (l : List ℕ). IsText l) (sym left) text), subst (λ (l : List ℕ). IsLiteral l d) is at.literal))
+      let left = append_cancel_left t (m ++ h.rest) h.more (sym (append_assoc t m h.rest) ∙ (ap (λ (l : List ℕ). l ++ h.rest) (sym is) ∙ at.spells)) in
+      inl (m, h.literal, text_of m h.rest (rw left h.is_text), rw is at at.literal))
   | inr (x, m, is) ↦ (
-      let left = append_cancel_left at.front rest (x ∷ (m ++ more)) (at.spells ∙ (ap (λ (l : List ℕ). l ++ more) is ∙ append_assoc at.front (x ∷ m) more)) in
-      go x m is left (may_follow d (x ∷ m)) refl)
+      let left = append_cancel_left at.front h.rest (x ∷ (m ++ h.more)) (at.spells ∙ (ap (λ (l : List ℕ). l ++ h.more) is ∙ append_assoc at.front (x ∷ m) h.more)) in
+      go x m is left (may_follow h.literal (x ∷ m)) refl)
 ]
   where
-    go : (x : ℕ) (m : List ℕ) → t ≡ at.front ++ x ∷ m → rest ≡ x ∷ (m ++ more) → (v : Bool) → may_follow d (x ∷ m) ≡ v → Begins literal_parse t ⊎ IsIntegerAndPeriod t
-    go x m is after true v = absurd (unsettled (d, x, m, record { front = at.front; spells = sym is; literal = at.literal; follows = v }))
+    at : HasPrefix (t ++ h.more) h.literal h.rest
+    at = h.found
+
+    go : (x : ℕ) (m : List ℕ) → t ≡ at.front ++ x ∷ m → h.rest ≡ x ∷ (m ++ h.more) → (v : Bool) → may_follow h.literal (x ∷ m) ≡ v → Begins literal_parse t ⊎ IsIntegerAndPeriod t
+    go x m is after true v = absurd (h.unsettled (h.literal, x, m, record { front = at.front; spells = sym is; literal = at.literal; follows = v }))
     go x m is after false v =
-        let p = by_more d x m more (subst (λ (l : List ℕ). may_follow d l ≡ true) after at.follows) v in
+        let p = by_more h.literal x m h.more (rw after at at.follows) v in
         let tail : x ∷ m ≡ 46 ∷ [] = (λ i. p.2 i ∷ p.3 i) in
         inr (at.front, (p.0, subst (λ (e : Derivation). IsLiteral at.front e) p.1 at.literal, p.4), ap (λ (l : List ℕ). at.front ++ l) (sym tail) ∙ sym is)
 
-period_stops : starts_identifier 46 ≡ false
-period_stops = is_xid_start-ascii 46 (omega arith)
-
 period_pair : (d : IntegerParts) → is_empty d.suffix ≡ true → may_follow (an_integer d) (46 ∷ 46 ∷ []) ≡ true
-period_pair d none = grind (arith, period_stops)
+period_pair d none = grind (arith, is_xid_start-ascii)
 
 period_alone : (d : IntegerParts) → is_empty d.suffix ≡ true → may_follow (an_integer d) (46 ∷ []) ≡ false
-period_alone d none = grind (arith, period_stops)
+period_alone d none = grind (arith, is_xid_start-ascii)
 
 -- a literal that a longer text begins is not settled
 begins_unsettled : (t : List ℕ) → Begins literal_parse t → IsSettled t → ⊥
@@ -76,12 +69,7 @@ period_unsettled front d h none s =
     let first : s.1 ≡ 46 = cc in
     let tail : s.2 ++ 46 ∷ [] ≡ 46 ∷ [] = cc in
     let rest : s.2 ≡ [] = append_cancel_right s.2 [] (46 ∷ []) tail in
-    let at : HasPrefix t (an_integer d) (46 ∷ []) =
-    subst (λ (l : List ℕ). HasPrefix t (an_integer d) l) (λ i. first i ∷ rest i) (subst (λ (e : Derivation). HasPrefix t e (s.1 ∷ s.2)) (sym both.0) s.3) in
-    true≢false (sym at.follows ∙ period_alone d none)
-
-pub goes_on_either : (t : List ℕ) → PrefixGoesOn t → Begins literal_parse t ⊎ IsIntegerAndPeriod t
-goes_on_either t h = goes_on_by t h.more h.literal h.rest h.unsettled h.is_text h.found
+    true≢false (sym (rw (← both.0, first, rest) at s.3.follows) ∙ period_alone d none)
 
 pub begins_goes_on : (t : List ℕ) → Begins literal_parse t → PrefixGoesOn t
 begins_goes_on t b = record {

@@ -1,19 +1,12 @@
 -- If a literal is at the front of a text, one begins there, and its rest is what follows what opens
 -- there.
-use Rattle.std.proofs.Common.{◌≡◌, ℕ, zero, suc, Bool, true, false, List, ◌∷◌, ◌++◌, refl, sym, ap, ◌∙◌, arith, ◌⊎◌, inl, inr, ◌+◌, ◌<◌, [], drop, subst, append_assoc, ◌==◌}
-use Rattle.litrs_prefix.specs.Words.{is_ascii_digit, first_passes, char_kind, byte_kind, switches_of, quoted_front, raw_front, char_front, starts_identifier, bool_text, plain_char, escaped_char, char_item_text, is_char_item, IsCharLiteral, hashes, raw_closing, RawParts, IsRawLiteral, Derivation, a_bool, an_integer, a_float, a_char, a_byte, IsLiteral, may_follow, ends_bool, ends_suffix, ends_float, HasPrefix, after_hashes, begins_lifetime, opens_raw, opens, after_run, after_name, PrefixesOpen, list_all, is_xid_continue, Switches, IsFloatOf, is_period, IntegerParts, IsIntegerOf, is_e, IsQuotedLiteral, past_quote, past_single_quote, after_digits, after_fraction, after_exponent, after_single_quote, after_quoted, after_char, after_closing, after_raw, after_number, after_body, after_opened, is_ascii_hexdigit, StringKind, string_kind, byte_string_kind, c_string_kind, is_suffix, CharItem, CharParts, occurs, StringParts, quoted_parts, raw_parts, IsString, a_string, a_byte_string, a_c_string, string_suffix, prefix, is_digit_or_underscore, is_blank, IntegerBase, Binary, Octal, Decimal, Hexadecimal, CharKind, Escape, simple_escape, hex_escape, unicode_escape, escape_text, is_escape, is_hex_or_underscore, FloatParts, Item, plain_item, escape_item, continuation, item_text, is_item, body_text, is_body, QuotedParts}
-use Rattle.std.proofs.lemmas.Bool.{and_parts, not-true}
+use Rattle.litrs_prefix.proofs.Words.{◌≡◌, ℕ, zero, suc, Bool, true, false, List, ◌∷◌, ◌++◌, refl, sym, ap, ◌∙◌, arith, ◌⊎◌, inl, inr, ◌+◌, ◌<◌, [], drop, subst, append_assoc, ◌==◌, is_ascii_digit, first_passes, char_kind, byte_kind, switches_of, quoted_front, raw_front, char_front, starts_identifier, bool_text, plain_char, escaped_char, char_item_text, is_char_item, IsCharLiteral, hashes, raw_closing, RawParts, IsRawLiteral, Derivation, a_bool, an_integer, a_float, a_char, a_byte, IsLiteral, may_follow, ends_bool, ends_suffix, ends_float, HasPrefix, after_hashes, begins_lifetime, opens_raw, opens, after_run, after_name, PrefixesOpen, list_all, is_xid_continue, Switches, IsFloatOf, is_period, IntegerParts, IsIntegerOf, is_e, IsQuotedLiteral, past_quote, past_single_quote, after_digits, after_fraction, after_exponent, after_single_quote, after_quoted, after_char, after_closing, after_raw, after_number, after_body, after_opened, is_ascii_hexdigit, StringKind, string_kind, byte_string_kind, c_string_kind, is_suffix, CharItem, CharParts, occurs, StringParts, quoted_parts, raw_parts, IsString, a_string, a_byte_string, a_c_string, string_suffix, prefix, is_digit_or_underscore, is_blank, IntegerBase, Binary, Octal, Decimal, Hexadecimal, CharKind, Escape, simple_escape, hex_escape, unicode_escape, escape_text, is_escape, is_hex_or_underscore, FloatParts, Item, plain_item, escape_item, continuation, item_text, is_item, body_text, is_body, QuotedParts, and_parts, or_left, not-true, starts_with_digit, first_passes-append, suffix_no_period, nat_tests, is_xid_start-ascii, is_xid_continue-ascii, if_true, if_false, cut_of_text, hash_len-append}
 use Rattle.litrs_grammar.proofs.QuotedItems.{escape_second}
-use Rattle.litrs_grammar.proofs.Laws.Integer.{starts_with_digit, first_passes-append}
-use Rattle.litrs_grammar.proofs.Laws.Float.{starts_digit, suffix_no_period}
+use Rattle.litrs_grammar.proofs.Laws.Float.{starts_digit}
+use Rattle.litrs_base.proofs.Runs.{list_all-append, list_all-weaken}
 use Rattle.litrs_prefix.proofs.Chars.{longer_char, longer_raw, longer}
 use Rattle.litrs_prefix.proofs.Names.{quote_stops, backslash_stops, run_after, name_after, bool_after}
-use Rattle.std.proofs.lemmas.Bool.Decides.{nat_tests}
-use Rattle.unicode_ident.proofs.IdentLemmas.{is_xid_start-ascii, is_xid_continue-ascii}
-use Rattle.litrs_base.proofs.ListTests.{if_true, if_false}
-use Rattle.litrs_base.proofs.Runs.{list_all-append, list_all-weaken}
-use Rattle.litrs_grammar.proofs.FloatCuts.{cut_of_text}
-use Rattle.litrs_grammar.proofs.RawCuts.{hash_len-append, length_before-body}
+use Rattle.litrs_grammar.proofs.RawCuts.{length_before-body}
 use Rattle.litrs_grammar.proofs.SuffixStart.{suffix_continues}
 use Rattle.litrs_prefix.proofs.Meant.{past_quote_is, past_single_quote_is, digits_passed, number_parts}
 use Rattle.litrs_prefix.proofs.Numbers.{longer_integer, longer_float, with_rest, float_cut_stays}
@@ -64,14 +57,13 @@ opened t d rest h = ap opens (sym h.spells) ∙ literal_opens h.front rest d h.l
 
 -- escapes
 
-hex_digits : (w : Switches) (a b : ℕ) → is_escape w (hex_escape a b) ≡ true → (is_ascii_hexdigit a ≡ true) × (is_ascii_hexdigit b ≡ true)
-hex_digits w a b h = and_parts (is_ascii_hexdigit a) (is_ascii_hexdigit b) (and_parts _ _ (and_parts _ _ h).0).0
+hex_digits : (w : Switches) (a b : ℕ) → is_escape w (hex_escape a b) ≡ true → list_all is_hex_or_underscore (a ∷ b ∷ []) ≡ true
+hex_digits w a b h =
+    let d = and_parts (is_ascii_hexdigit a) (is_ascii_hexdigit b) (and_parts _ _ (and_parts _ _ h).0).0 in
+    rw (or_left (is_ascii_hexdigit a) (a == 95) d.0, or_left (is_ascii_hexdigit b) (b == 95) d.1) refl
 
 unicode_digits : (w : Switches) (u : List ℕ) → is_escape w (unicode_escape u) ≡ true → list_all is_hex_or_underscore u ≡ true
 unicode_digits w u h = grind arith
-
-hex_passed : (c : ℕ) (t : List ℕ) → is_ascii_hexdigit c ≡ true → (past_quote 34 false (c ∷ t) ≡ past_quote 34 false t) × (past_single_quote false (c ∷ t) ≡ past_single_quote false t)
-hex_passed c t h = grind (arith, nat_tests)
 
 -- quoted strings
 
@@ -86,12 +78,9 @@ digit_none c h = (grind (arith, nat_tests), grind (arith, nat_tests))
 blank_none : (c : ℕ) → is_blank c ≡ true → ((c == 34) ≡ false) × ((c == 92) ≡ false)
 blank_none c h = (grind (arith, nat_tests), grind (arith, nat_tests))
 
-second_passed : (c : ℕ) (t : List ℕ) → past_quote 34 true (c ∷ t) ≡ past_quote 34 false t
-second_passed c t = grind arith
-
 escape_passed : (w : Switches) (e : Escape) (t : List ℕ) → is_escape w e ≡ true → past_quote 34 false (escape_text e ++ t) ≡ past_quote 34 false t
-escape_passed w (simple_escape c) t h = second_passed c t
-escape_passed w (hex_escape a b) t h = (let digits = hex_digits w a b h in (hex_passed a (b ∷ t) digits.0).0 ∙ (hex_passed b t digits.1).0)
+escape_passed w (simple_escape c) t h = grind arith
+escape_passed w (hex_escape a b) t h = run_passed is_hex_or_underscore digit_none (a ∷ b ∷ []) t (hex_digits w a b h)
 escape_passed w (unicode_escape u) t h =
     ap (past_quote 34 false) (append_assoc u (125 ∷ []) t) ∙ run_passed is_hex_or_underscore digit_none u (125 ∷ t) (unicode_digits w u h)
 
@@ -126,7 +115,7 @@ line_second c t h = grind arith
 
 escape_closed : (w : Switches) (e : Escape) (x : List ℕ) → is_escape w e ≡ true → past_single_quote false (escape_text e ++ 39 ∷ x) ≡ x
 escape_closed w (simple_escape c) x h = line_second c (39 ∷ x) (escape_second w (simple_escape c) [] c [] h refl)
-escape_closed w (hex_escape a b) x h = (let digits = hex_digits w a b h in (hex_passed a (b ∷ 39 ∷ x) digits.0).1 ∙ (hex_passed b (39 ∷ x) digits.1).1)
+escape_closed w (hex_escape a b) x h = line_passed (a ∷ b ∷ []) (39 ∷ x) (hex_digits w a b h)
 escape_closed w (unicode_escape u) x h = ap (past_single_quote false) (append_assoc u (125 ∷ []) (39 ∷ x)) ∙ line_passed u (125 ∷ 39 ∷ x) (unicode_digits w u h)
 
 after_escape : (e : Escape) (y : List ℕ) → after_char (escape_text e ++ y) ≡ after_single_quote (escape_text e ++ y)

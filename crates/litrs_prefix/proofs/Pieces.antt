@@ -1,13 +1,9 @@
 -- A piece at the front of a text that is refused.
-use Rattle.std.proofs.Common.{◌≡◌, ◌⊎◌, ℕ, ◌+◌, ◌<◌, ◌^◌, List, ◌++◌, length, take, drop, None, sym, ap, subst, inl, inr, ◌∙◌, append_assoc, append-nil, length-take, [], ◌∷◌, ◌-◌, ◌≤◌, refl, arith}
-use Rattle.litrs_prefix.specs.Words.{chars, IsUtf8, IsCharBoundary, byte_len, Derivation, IsLiteral, literal_parse, IsLiteralLen, IsMalformedLen, IsMalformedOrOutOfMemory, IsMeant, HasPrefix, ParseError, HasNoDerivation, IsRefused, IsRefusedOrOutOfMemory, Refusal, span_of, MovesWithin, MalformedPrefix, EndsBefore, IsMalformed}
-use Rattle.std.proofs.lemmas.Str.{chars-append, chars-nil, encodes-chars, IsUtf8-from_ascii, IsUtf8-take}
-use Rattle.litrs_base.proofs.Chars.{ascii_by_test, chars_ascii}
-use Rattle.std.proofs.lemmas.List.{take-append-drop, append_cancel_right}
-use Rattle.litrs_grammar.proofs.Laws.Literal.{literals_are_unique}
-use Rattle.litrs_lex.proofs.CharCuts.{cut_at}
+use Rattle.litrs_prefix.proofs.Words.{◌≡◌, encode_utf8_all, ◌⊎◌, ℕ, ◌+◌, ◌<◌, ◌^◌, List, ◌++◌, length, take, drop, None, sym, ap, subst, inl, inr, ◌∙◌, append_assoc, append-nil, length-take, [], ◌∷◌, ◌-◌, ◌≤◌, refl, arith, chars, IsUtf8, IsCharBoundary, byte_len, Derivation, IsLiteral, literal_parse, IsLiteralLen, IsMalformedLen, IsMalformedOrOutOfMemory, IsMeant, HasPrefix, ParseError, HasNoDerivation, IsRefused, IsRefusedOrOutOfMemory, Refusal, span_of, MovesWithin, MalformedPrefix, EndsBefore, IsMalformed, chars-append, chars-nil, encodes-chars, IsUtf8-take, chars_ascii, take-append-drop, append_cancel_right, literals_are_unique, cut_at}
+use Rattle.std.proofs.lemmas.Str.{chars-IsAscii, encodes-append, encodes-IsAscii}
+use Rattle.litrs_base.proofs.Chars.{ascii_by_test}
 use Rattle.litrs.proofs.MovedRefusals.{refusal_moves}
-use Rattle.litrs_prefix.proofs.Ends.{front_is, bytes_spell, end_at, not_longer}
+use Rattle.litrs_prefix.proofs.Ends.{front_is}
 use Rattle.litrs_prefix.proofs.MeantPieces.{meant_longer}
 use Rattle.litrs_prefix.proofs.Unique.{no_literal}
 
@@ -38,8 +34,7 @@ pub front_found : (bs front rest : List ℕ) (n : ℕ) (x : Derivation) → IsUt
 front_found bs front rest n x u before after (inr is) h = absurd (is.front.invalid x (subst (λ (l : List ℕ). IsLiteral (chars l) x) before h))
 front_found bs front rest n x u before after (inl is) h =
     let literal = piece_is bs front n is.literal (chars (drop n bs)) u before (is.boundary, refl) is.at_front in
-    let same : is.literal ≡ x = literals_are_unique (chars front) is.literal x literal h in
-    subst (λ (d : Derivation). HasPrefix (chars bs) d (chars rest)) same (subst (λ (l : List ℕ). HasPrefix (chars bs) is.literal (chars l)) (sym after) is.at_front)
+    rw (after, ← literals_are_unique (chars front) is.literal x literal h) is.at_front
 
 -- the error of the literal, valid or malformed, at the front
 pub front_refused : (bs front rest : List ℕ) (n : ℕ) (e : ParseError) → IsUtf8 bs → front ≡ take n bs → rest ≡ drop n bs → length front ≡ n → IsLiteralLen bs n ⊎ IsMalformedLen bs n →
@@ -82,20 +77,22 @@ no_empty_piece bs d r at place =
     let none : at.front ≡ [] = append_cancel_right at.front [] r (at.spells ∙ place.1) in
     no_literal d (subst (λ (t : List ℕ). IsLiteral t d) none at.literal)
 
--- a text that ends with a period, in bytes
-pub last_period : (bs front : List ℕ) → IsUtf8 bs → front ++ 46 ∷ [] ≡ chars bs → IsCharBoundary bs (length bs - 1) × (drop (length bs - 1) bs ≡ 46 ∷ []) × (1 ≤ length bs)
-last_period bs front u is =
-    let period : chars (46 ∷ []) ≡ 46 ∷ [] = chars_ascii 46 [] (omega arith) ∙ ap (λ (l : List ℕ). 46 ∷ l) chars-nil in
-    let v = IsUtf8-from_ascii (46 ∷ []) (ascii_by_test (46 ∷ []) refl) in
-    let spells = bytes_spell bs (46 ∷ []) front u v (ap (λ (l : List ℕ). front ++ l) period ∙ is) in
-    let at = end_at bs _ (46 ∷ []) v spells in
-    (at.0, at.1, not_longer bs (46 ∷ []) (_, spells))
+-- a text that ends with a period, in bytes and in characters
+pub period_bytes : (bs front : List ℕ) → IsUtf8 bs → front ++ 46 ∷ [] ≡ chars bs → encode_utf8_all front ++ 46 ∷ [] ≡ bs
+period_bytes bs front u is =
+    ap (λ (l : List ℕ). encode_utf8_all front ++ l) (sym (encodes-IsAscii (46 ∷ []) (ascii_by_test (46 ∷ []) refl)))
+    ∙ (sym (encodes-append front (46 ∷ [])) ∙ (ap encode_utf8_all is ∙ encodes-chars bs u))
 
 pub period_after : (bs front : List ℕ) (n : ℕ) → IsUtf8 bs → front ≡ take (length bs - n) bs → n ≡ 1 → bs ≡ take (length bs - n) bs ++ 46 ∷ [] → IsCharBoundary bs (length bs - 1) →
     chars front ++ 46 ∷ [] ≡ chars bs
 period_after bs front n u before one is bound =
-    let text : IsUtf8 front = subst (λ (l : List ℕ). IsUtf8 l) (ap (λ (k : ℕ). take (length bs - k) bs) (sym one) ∙ sym before) (IsUtf8-take bs (length bs - 1) u bound) in
-    sym (ap chars (is ∙ ap (λ (l : List ℕ). l ++ 46 ∷ []) (sym before)) ∙ (chars-append front (46 ∷ []) text ∙ ap (λ (l : List ℕ). chars front ++ l) (chars_ascii 46 [] (omega arith) ∙ ap (λ (l : List ℕ). 46 ∷ l) chars-nil)))
+    let text : IsUtf8 front = rw (before, one) (IsUtf8-take bs (length bs - 1) u bound) in
+    let spells : chars (front ++ 46 ∷ []) ≡ chars bs = ap chars (rw (← before) at (sym is)) in
+    rw (chars-append front (46 ∷ []) text, chars-IsAscii (46 ∷ []) (ascii_by_test (46 ∷ []) refl)) at spells
+
+-- a text without characters has no bytes
+pub no_bytes : (bs : List ℕ) → IsUtf8 bs → chars bs ≡ [] → length bs ≡ 0
+no_bytes bs u none = ap length (sym (encodes-chars bs u) ∙ ap encode_utf8_all none)
 
 -- a malformed prefix ends at a character
 pub malformed_boundary : (bs : List ℕ) (e : MalformedPrefix) → IsUtf8 bs → IsMalformed (chars bs) e → IsCharBoundary bs e.len

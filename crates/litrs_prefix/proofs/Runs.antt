@@ -1,28 +1,14 @@
 -- Names at the front of a text: their ASCII characters are passed by their bytes.
-use Rattle.std.proofs.Common.{◌≡◌, ℕ, ◌<◌, Bool, true, false, List, [], ◌∷◌, ◌++◌, length, drop, refl, sym, ap, subst, ◌∙◌, arith, if◌then◌else◌}
-use Rattle.litrs_prefix.specs.Words.{nat_le, list_all, prefix_len, chars, IsUtf8, IsCharBoundary, is_xid_continue, begins_with, first_passes, bool_text, is_bool, after_run, after_name, first_name, ltb}
-use Rattle.std.proofs.lemmas.Bool.{true≢false, false_from_ne_true}
-use Rattle.std.proofs.lemmas.Bool.Decides.{nat_tests}
-use Rattle.std.proofs.lemmas.Str.{IsCharBoundary-from_drop, chars-nil}
-use Rattle.unicode_ident.proofs.IdentLemmas.{is_xid_continue-ascii}
-use Rattle.litrs_base.proofs.Begins.{begins_with-split, begins_with-append}
-use Rattle.litrs_base.proofs.Chars.{OnlyAscii, chars_ascii, ascii_from_test, begins_with-chars, begins_front, passing_front, prefix_len-chars}
-use Rattle.litrs_base.proofs.ListTests.{if_false}
-use Rattle.litrs_grammar.proofs.Laws.Integer.{first_passes-rest}
-use Rattle.litrs_grammar.proofs.Laws.Literal.{some_bool}
-use Rattle.litrs_lex.proofs.SuffixBytes.{is_word, words_are_ascii}
+use Rattle.litrs_prefix.proofs.Words.{◌≡◌, ℕ, ◌<◌, Bool, true, false, List, [], ◌∷◌, ◌++◌, length, drop, refl, sym, ap, subst, ◌∙◌, arith, if◌then◌else◌, nat_le, list_all, prefix_len, chars, IsUtf8, IsCharBoundary, is_xid_continue, begins_with, first_passes, bool_text, is_bool, after_run, after_name, first_name, ltb, true≢false, false_from_ne_true, nat_tests, IsCharBoundary-from_drop, chars-nil, is_xid_continue-ascii, begins_with-split, begins_with-append, OnlyAscii, chars_ascii, begins_with-chars, begins_front, prefix_len-chars, if_false, first_passes-rest, some_bool, is_word, words_are_ascii}
+use Rattle.litrs_base.proofs.Chars.{ascii_from_test, passing_front}
 use Rattle.litrs_prefix.proofs.Names.{name_and_rest}
 
 pub drop_passed : (p : ℕ → Bool) (c : ℕ) (t : List ℕ) → drop (prefix_len p (c ∷ t)) (c ∷ t) ≡ (if p c then drop (prefix_len p t) t else (c ∷ t))
 drop_passed p c t = grind arith
 
-passed_step : (p : ℕ → Bool) (c : ℕ) (t : List ℕ) → (p c ≡ true → is_xid_continue c ≡ true) → after_run t ≡ after_run (drop (prefix_len p t) t) →
-    after_run (c ∷ t) ≡ after_run (if p c then drop (prefix_len p t) t else (c ∷ t))
-passed_step p c t goes rest = grind arith
-
 pub run_past : (p : ℕ → Bool) → ((c : ℕ) → p c ≡ true → is_xid_continue c ≡ true) → (t : List ℕ) → after_run t ≡ after_run (drop (prefix_len p t) t)
 run_past p goes [] = refl
-run_past p goes (c ∷ t) = passed_step p c t (goes c) (run_past p goes t) ∙ ap after_run (sym (drop_passed p c t))
+run_past p goes (c ∷ t) = grind (arith, drop_passed, goes c, run_past p goes t)
 
 -- the characters at the front of a text that pass a test of ASCII characters, in bytes
 pub ascii_front : (p : ℕ → Bool) → OnlyAscii p → (bs : List ℕ) → IsUtf8 bs → IsCharBoundary bs (prefix_len p bs) × (chars (drop (prefix_len p bs) bs) ≡ drop (prefix_len p (chars bs)) (chars bs))
@@ -41,9 +27,7 @@ name_cut bs n u is =
 -- no more characters pass before an ASCII character that does not
 ends_at : (bs : List ℕ) → first_passes is_word bs ≡ false → first_passes (nat_le 128) bs ≡ false → after_run (chars bs) ≡ chars bs
 ends_at [] a b = ap after_run chars-nil ∙ sym chars-nil
-ends_at (c ∷ bs) a b =
-    let low : c < 128 = grind (arith, nat_tests) in
-    ap after_run (chars_ascii c bs low) ∙ (if_false (is_xid_continue c) (after_run (chars bs)) (c ∷ chars bs) (is_xid_continue-ascii c low ∙ a) ∙ sym (chars_ascii c bs low))
+ends_at (c ∷ bs) a b = grind (arith, nat_tests, chars_ascii, is_xid_continue-ascii)
 
 pub name_ends : (bs rest : List ℕ) (n : ℕ) → IsUtf8 bs → n ≡ prefix_len is_word bs → rest ≡ drop n bs → first_passes (nat_le 128) rest ≡ false → chars rest ≡ after_run (chars bs)
 name_ends bs rest n u is back narrow =

@@ -1,10 +1,6 @@
 -- A text has at most one literal at its front.
-use Rattle.std.proofs.Common.{◌≡◌, ◌⊎◌, inl, inr, ℕ, Bool, true, false, List, [], ◌∷◌, ◌++◌, refl, sym, ap, subst, ◌∙◌, arith, if◌then◌else◌}
-use Rattle.litrs_prefix.specs.Words.{is_ascii_digit, first_passes, bool_text, is_bool, IntegerParts, Derivation, a_bool, an_integer, a_float, IsLiteral, begins_float, ends_suffix, ends_bool, HasPrefix, PrefixesAreUnique, InvalidLiteral, Refusal, without_span, FloatParts, literal_kind, bool_literal, integer_literal, float_literal, refused_as, parsed_as, dispatch}
-use Rattle.std.proofs.lemmas.Bool.{and_parts, true≢false}
-use Rattle.std.proofs.lemmas.List.{append_cancel_right}
-use Rattle.litrs_grammar.proofs.Laws.Integer.{starts_with_digit, first_passes-append}
-use Rattle.litrs_grammar.proofs.Laws.Literal.{dispatch_literal, is_bool-digit, literals_are_unique}
+use Rattle.litrs_prefix.proofs.Words.{◌≡◌, ◌⊎◌, inl, inr, ℕ, Bool, true, false, List, [], ◌∷◌, ◌++◌, refl, sym, ap, subst, ◌∙◌, arith, if◌then◌else◌, is_ascii_digit, first_passes, bool_text, is_bool, IntegerParts, Derivation, a_bool, an_integer, a_float, IsLiteral, begins_float, ends_suffix, ends_bool, HasPrefix, PrefixesAreUnique, InvalidLiteral, Refusal, without_span, FloatParts, literal_kind, bool_literal, integer_literal, float_literal, refused_as, parsed_as, dispatch, and_parts, true≢false, append_cancel_right, starts_with_digit, first_passes-append, dispatch_literal, literals_are_unique}
+use Rattle.litrs_grammar.proofs.Laws.Literal.{is_bool-digit}
 use Rattle.litrs_prefix.proofs.Numbers.{same_integer, has_mark, integer_mark, float_mark}
 use Rattle.litrs_prefix.proofs.Opened.{only_rest}
 

@@ -1,5 +1,6 @@
 -- The text after the first character of the rest is an end of the text.
-use Rattle.litrs_prefix.proofs.Words.{◌≡◌, ℕ, List, [], length, drop, ap, sym, ◌∙◌, arith, encode_utf8_all, chars, encodes-chars, after_first, after_bytes, end_at, end_boundary}
+use Rattle.litrs_prefix.proofs.Words.{◌≡◌, ℕ, List, [], drop, ap, sym, ◌∙◌, arith, chars, after_first, after_bytes, end_at, end_boundary}
+use Rattle.litrs_prefix.proofs.Pieces.{no_bytes}
 use Rattle.litrs_prefix.proofs.next_boundary.Goals as goal
 
 pub returns-in-Some-clause-boundary : goal.returns-in-Some-clause-boundary
@@ -11,11 +12,7 @@ returns-in-Some-clause-boundary c =
 
 pub returns-in-None-clause-longer : goal.returns-in-None-clause-longer
 returns-in-None-clause-longer c = λ less.
-    let rest = c.range_from.result.now in
-    let none : rest ≡ [] = sym (encodes-chars rest c.range_from.utf8) ∙ ap encode_utf8_all c.in-None.ensures.empty in
-    let size : length rest ≡ 0 = ap length none in
-    let sizes = c.range_from.ensures.len in
-    omega arith
+    omega (arith, c.range_from.ensures.len, no_bytes c.range_from.result.now c.range_from.utf8 c.in-None.ensures.empty)
 
 pub returns-in-Some-clause-rest : goal.returns-in-Some-clause-rest
 returns-in-Some-clause-rest c =

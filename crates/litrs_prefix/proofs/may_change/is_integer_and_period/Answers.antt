@@ -1,6 +1,6 @@
 -- The text before the period decides, and its parse.
-use Rattle.litrs_prefix.proofs.Words.{◌≡◌, ℕ, List, [], ◌∷◌, ◌++◌, ◌-◌, length, take, refl, sym, ap, subst, ◌∙◌, chars, false≢true, append_cancel_right, take-append-drop, is_empty, IntegerParts, an_integer, integer_parts, IsBareInteger}
-use Rattle.litrs_prefix.proofs.Pieces.{last_period, period_after}
+use Rattle.litrs_prefix.proofs.Words.{◌≡◌, ℕ, List, [], ◌∷◌, ◌++◌, encode_utf8_all, refl, sym, ap, subst, ◌∙◌, chars, false≢true, append_cancel_right, is_empty, IntegerParts, an_integer, integer_parts, IsBareInteger}
+use Rattle.litrs_prefix.proofs.Pieces.{period_bytes, period_after}
 use Rattle.litrs_prefix.proofs.may_change.is_integer_and_period.Goals as goal
 
 pub returns-in-Ok : goal.returns-in-Ok
@@ -30,8 +30,5 @@ returns-in-Err c =
 pub returns-in-None : goal.returns-in-None
 returns-in-None c = (
   λ yes. absurd (false≢true yes),
-  λ integer.
-      let text = c.args.text.now in
-      let last = last_period text integer.0 c.utf8.text integer.2 in
-      absurd (c.in-None.ensures.cases (take (length text - 1) text) (sym (ap (λ (l : List ℕ). take (length text - 1) text ++ l) (sym last.1) ∙ take-append-drop (length text - 1) text))),
+  λ integer. absurd (c.in-None.ensures.cases (encode_utf8_all integer.0) (sym (period_bytes c.args.text.now integer.0 c.utf8.text integer.2))),
 )
