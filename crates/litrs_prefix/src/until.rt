@@ -76,10 +76,9 @@ fn after_literal(text: &str) -> &str
     ensures { chars result.now ≡ after_literal (chars text.now) }
 {
     if opens(text) {
-        after_opened(text)
-    } else {
-        text
+        return after_opened(text);
     }
+    text
 }
 
 /// Returns the part of `text` from its first delimiter on.
