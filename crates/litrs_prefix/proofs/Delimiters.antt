@@ -1,5 +1,6 @@
 -- The text before a delimiter is a front of the text.
-use Rattle.litrs_prefix.proofs.Words.{◌≡◌, ℕ, ◌+◌, ◌-◌, ◌≤◌, Bool, true, false, ◌&&◌, List, [], ◌∷◌, ◌++◌, length, take, drop, refl, sym, ap, ◌∙◌, append_assoc, length-append, arith, ◌==◌, if◌then◌else◌, chars, IsUtf8, IsCharBoundary, drop_trailing_whitespace, IsEndOf, IsMarkedAt, after_opened, opens, from_first, after_literal, from_delimiter, before_delimiter, StartsWithDelimiter, IsRefusedUntil, is_whitespace, MalformedPrefix, drop_at, take-append-drop, append_cancel_right, cut_at, byte_len-all}
+use Rattle.litrs_prefix.proofs.Words.{◌≡◌, subst, cases_Bool, inl, inr, ℕ, ◌-◌, ◌&&◌, List, [], ◌∷◌, ◌++◌, length, take, drop, refl, sym, ap, ◌∙◌, append_assoc, length-append, arith, ◌==◌, if◌then◌else◌, chars, IsUtf8, IsCharBoundary, drop_trailing_whitespace, IsEndOf, IsMarkedAt, opens, from_first, after_literal, from_delimiter, before_delimiter, StartsWithDelimiter, IsRefusedUntil, is_whitespace, MalformedPrefix}
+use Rattle.std.proofs.Common.{take_at}
 use Rattle.std.specs.Str.{trim_end}
 use Rattle.std.proofs.lemmas.Str.{chars_from_encodes}
 use Rattle.litrs_prefix.proofs.Ends.{all as whole, bytes_spell, end_of_end}
@@ -12,11 +13,10 @@ found_end ds [] = ([], refl)
 found_end ds (c ∷ t) = either _ _ _ _ (whole (c ∷ t)) (next c t _ (found_end ds t))
 
 literal_end : (t : List ℕ) → IsEndOf t (after_literal t)
-literal_end t = go (opens t) refl
-  where
-    go : (v : Bool) → opens t ≡ v → IsEndOf t (if v then after_opened t else t)
-    go true e = let piece = opened_piece t e in (piece.first ∷ piece.piece, piece.spells)
-    go false e = ([], refl)
+literal_end t = elim (cases_Bool (opens t)) [
+  | inl is ↦ (let piece = opened_piece t is in rw is (piece.first ∷ piece.piece, piece.spells))
+  | inr is ↦ rw is (whole t)
+]
 
 pub delimiter_end : (ds t : List ℕ) → IsEndOf t (from_delimiter ds t)
 delimiter_end ds t = end_of_end t (after_literal t) _ (literal_end t) (found_end ds (after_literal t))
@@ -33,23 +33,15 @@ trailing (c ∷ t) = ((if is_whitespace c && (length (drop_trailing_whitespace t
 
 -- a text without its end
 before_end : (t x : List ℕ) → IsEndOf t x → take (length t - length x) t ++ x ≡ t
-before_end t x end =
-    let n : ℕ = length t - length x in
-    let size : length t ≡ length end.0 + length x = ap length (sym end.1) ∙ length-append end.0 x in
-    let place : length end.0 ≡ n = omega arith in
-    let left : drop n t ≡ x = ap (drop n) (sym end.1) ∙ drop_at end.0 x n place in
-    ap (λ (l : List ℕ). take n t ++ l) (sym left) ∙ take-append-drop n t
+before_end t x end = subst (λ (l : List ℕ). take (length l - length x) l ++ x ≡ l) end.1
+    (ap (λ (l : List ℕ). l ++ x) (take_at end.0 x _ (omega (arith, length-append end.0 x))))
 
 -- the text before a delimiter, and all that follows it
 pub before_front : (ds t : List ℕ) → (more : List ℕ) × (before_delimiter ds t ++ more ≡ t)
 before_front ds t =
     let x : List ℕ = from_delimiter ds t in
-    let front : List ℕ = take (length t - length x) t in
-    let white = trailing front in (
-      white.0 ++ x,
-      sym (append_assoc (drop_trailing_whitespace front) white.0 x)
-          ∙ (ap (λ (l : List ℕ). l ++ x) white.1 ∙ before_end t x (delimiter_end ds t)),
-    )
+    let white = trailing (take (length t - length x) t) in
+    (white.0 ++ x, grind (arith, append_assoc, before_end t x (delimiter_end ds t)))
 
 -- a text without the white space at its end, in bytes
 pub trimmed : (bs r : List ℕ) → IsUtf8 r → r ≡ trim_end bs → chars r ≡ drop_trailing_whitespace (chars bs)

@@ -1,5 +1,5 @@
 -- Answers that more text changes, and those that stay.
-use Rattle.litrs_prefix.proofs.Words.{◌≡◌, ◌⊎◌, inl, inr, eqb, ltb, ℕ, Bool, true, false, ◌||◌, List, [], ◌∷◌, ◌++◌, length, length-append, refl, sym, ap, subst, ◌∙◌, append_assoc, append-nil, arith, codes, is_ascii_digit, list_all, chars, IsUtf8, first_passes, is_empty, bool_text, is_bool, Derivation, a_bool, literal_parse, is_quote, PrefixGoesOn, MalformedStay, AnswerStays, AnswerChanges, OpensNever, OpensLater, is_open_prefix, is_open_front, is_quoted_line_feed, after_opened, first_name, after_name, after_hashes, begins_lifetime, opens_raw, opens_bytes, opens_c_string, opens, may_follow, HasPrefix, HasNoPrefix, pointwise, is_scalar, IsText, is_text, Begins, first_run, and_parts, and_left, or_right, cases_Bool, true≢false, false≢true, false_from_ne_true, nat_tests, append_cancel_left, list_all-append, is_xid_start-ascii, some_bool}
+use Rattle.litrs_prefix.proofs.Words.{◌≡◌, MalformedPrefix, IsMalformed, ◌⊎◌, inl, inr, eqb, ltb, ℕ, Bool, true, false, ◌||◌, List, [], ◌∷◌, ◌++◌, length, length-append, refl, sym, ap, ◌∙◌, append_assoc, append-nil, arith, codes, list_all, chars, IsUtf8, first_passes, is_empty, bool_text, is_bool, Derivation, a_bool, literal_parse, is_quote, PrefixGoesOn, MalformedStay, AnswerStays, AnswerChanges, OpensNever, OpensLater, is_open_prefix, is_open_front, is_quoted_line_feed, after_opened, first_name, after_name, after_hashes, begins_lifetime, opens_raw, opens_bytes, opens_c_string, opens, may_follow, HasPrefix, HasNoPrefix, pointwise, is_scalar, IsText, is_text, Begins, first_run, and_left, cases_Bool, true≢false, false≢true, false_from_ne_true, nat_tests, append_cancel_left, is_xid_start-ascii, some_bool}
 use Rattle.litrs_base.proofs.Chars.{is_text-chars}
 use Rattle.std.proofs.lemmas.Bool.{or_cases, or_parts}
 use Rattle.litrs_grammar.proofs.Laws.Literal.{is_text-is}
@@ -10,6 +10,8 @@ use Rattle.litrs_prefix.proofs.LongerTexts.{whole, stays}
 use Rattle.litrs_prefix.proofs.Opened.{opened}
 use Rattle.litrs_prefix.proofs.MeantEnds.{letter_is_taken, opened_stays, raw_stays, lifetime_stays, name_kept, run_whole, x_goes_on, x_begins}
 use Rattle.litrs_prefix.proofs.Unique.{unique}
+use Rattle.litrs_prefix.proofs.MoreText.{goes_on_with, text_parts}
+use Rattle.litrs_prefix.proofs.Pieces.{malformed_of}
 
 -- a malformed literal
 
@@ -42,19 +44,15 @@ malformed_reaches_end t h absent end = malformed_changes t 120 [] h absent refl 
 
 -- a test of the bytes is one of the characters
 text_test : (w bs : List ℕ) → is_text w bs ≡ pointwise eqb bs w
-text_test [] [] = refl
-text_test [] (d ∷ bs) = refl
-text_test (c ∷ w) [] = refl
-text_test (c ∷ w) (d ∷ bs) = grind (arith, nat_tests, text_test w bs)
+text_test [] bs = grind arith
+text_test (c ∷ w) bs = grind (arith, nat_tests, text_test w)
 
 pub char_test : (w bs : List ℕ) → list_all (λ c. ltb c 128) w ≡ true → IsUtf8 bs → is_text w (chars bs) ≡ pointwise eqb bs w
 char_test w bs low u = is_text-chars w bs low u ∙ text_test w bs
 
 pub line_feed_test : (bs : List ℕ) → IsUtf8 bs → is_quoted_line_feed (chars bs) ≡ (pointwise eqb bs (39 ∷ 10 ∷ []) || pointwise eqb bs (98 ∷ 39 ∷ 10 ∷ []))
 line_feed_test bs u =
-    let a = char_test (39 ∷ 10 ∷ []) bs refl u in
-    let b = char_test (98 ∷ 39 ∷ 10 ∷ []) bs refl u in
-    λ i. a i || b i
+    λ i. char_test (39 ∷ 10 ∷ []) bs refl u i || char_test (98 ∷ 39 ∷ 10 ∷ []) bs refl u i
 
 -- texts that a `'` after the line feed makes longer
 pub malformed_line_feed : (t : List ℕ) → opens t ≡ true → HasNoPrefix t → is_quoted_line_feed t ≡ true → AnswerChanges t
@@ -65,20 +63,7 @@ malformed_line_feed t h absent is = malformed_changes t 39 [] h absent refl (eli
 
 malformed_longer : (t m front : List ℕ) → opens (t ++ m) ≡ true → after_opened (t ++ m) ≡ after_opened t ++ m → HasNoPrefix (t ++ m) →
     IsMalformedFront t front → IsMalformedFront (t ++ m) front
-malformed_longer t m front h left absent is = record {
-  rest = is.rest ++ m;
-  spells = sym (append_assoc front is.rest m) ∙ ap (λ (l : List ℕ). l ++ m) is.spells;
-  opens = h;
-  none = absent;
-  meant = record {
-    piece = is.meant.piece;
-    more = is.meant.more;
-    opened = ap (λ (l : List ℕ). is.meant.piece ++ l) left ∙ (sym (append_assoc is.meant.piece (after_opened t) m) ∙ ap (λ (l : List ℕ). l ++ m) is.meant.opened);
-    longer = is.meant.longer;
-    shortest = is.meant.shortest;
-  };
-  invalid = is.invalid;
-}
+malformed_longer t m front h left absent is = grind (arith, append_assoc)
 
 pub malformed_stays : (t : List ℕ) → opens t ≡ true → HasNoPrefix t → (PrefixGoesOn t → ⊥) → is_empty (after_opened t) ≡ false → is_quoted_line_feed t ≡ false → AnswerStays t
 malformed_stays t h absent ends some other none m text is = absurd (true≢false (sym h ∙ is))
@@ -88,37 +73,15 @@ malformed_stays t h absent ends some other (malformed front) m text is =
     malformed_longer t m front longer.0 longer.1 never is
   where
     never : HasNoPrefix (t ++ m)
-    never d rest found = ends (record {
-      unsettled = λ s. absent s.0 (s.1 ∷ s.2) s.3;
-      more = m;
-      is_text = text;
-      literal = d;
-      rest = rest;
-      found = found;
-    })
+    never d rest found = ends (goes_on_with t m d rest (λ s. absent s.0 (s.1 ∷ s.2) s.3) text found)
+
+front_of_malformed : (t : List ℕ) (e : MalformedPrefix) (is : IsMalformed t e) → IsMalformedFront t is.front
+front_of_malformed t e is = grind arith
 
 -- its length and its error
 pub malformed_stay : MalformedStay
 malformed_stay t more e stay text is =
-    let longer = stay (malformed is.front) more text (record {
-      rest = is.rest;
-      spells = is.spells;
-      opens = is.opens;
-      none = is.none;
-      meant = is.meant;
-      invalid = is.refused.none;
-    }) in
-    record {
-      front = is.front;
-      rest = longer.rest;
-      spells = longer.spells;
-      len = is.len;
-      some = is.some;
-      meant = longer.meant;
-      refused = is.refused;
-      opens = longer.opens;
-      none = longer.none;
-    }
+    malformed_of (t ++ more) is.front e (stay (malformed is.front) more text (front_of_malformed t e is)) is.len is.some is.refused
 
 -- a literal
 
@@ -181,15 +144,9 @@ quoted_name (c ∷ t) h = grind (arith, run_whole t (39 ∷ []), quote_stops)
 raw_later : (t : List ℕ) → is_empty (after_hashes t) ≡ true → opens_raw (t ++ 34 ∷ []) ≡ true
 raw_later t h = ap (first_passes is_quote) (hashes_to t (34 ∷ []) h)
 
-bytes_later : (t : List ℕ) → is_open_prefix t ≡ true → opens_bytes (t ++ 34 ∷ []) ≡ true
-bytes_later t h = grind (arith, nat_tests, raw_later)
-
-c_later : (t : List ℕ) → is_open_prefix t ≡ true → opens_c_string (t ++ 34 ∷ []) ≡ true
-c_later t h = grind (arith, nat_tests, raw_later)
-
 -- a quote of one of the two kinds opens it
 quotes_open : (c : ℕ) (t : List ℕ) → is_open_front (c ∷ t) ≡ true → (opens (c ∷ (t ++ 39 ∷ [])) ≡ true) ⊎ (opens (c ∷ (t ++ 34 ∷ [])) ≡ true)
-quotes_open c t h = grind (arith, nat_tests, quoted_name t, raw_later t, bytes_later t, c_later t)
+quotes_open c t h = grind (arith, nat_tests, quoted_name t, raw_later)
 
 pub front_later : (t : List ℕ) → is_open_front t ≡ true → OpensLater t
 front_later [] h = absurd (false≢true h)
@@ -209,8 +166,7 @@ bool_is_text b = grind arith
 begins_bool : (t z : List ℕ) → is_bool (t ++ z) ≡ true → Begins literal_parse t
 begins_bool t z h =
     let bool = some_bool (t ++ z) h in
-    let text : list_all is_scalar (t ++ z) ≡ true = ap (list_all is_scalar) (sym bool.1) ∙ bool_is_text bool.0 in
-    (z, a_bool bool.0, (and_parts (list_all is_scalar t) (list_all is_scalar z) (sym (list_all-append is_scalar t z) ∙ text)).1, bool.1)
+    (z, a_bool bool.0, (text_parts t z (rw (← bool.1) (bool_is_text bool.0))).1, bool.1)
 
 bytes_opened : (t m : List ℕ) → is_open_prefix t ≡ false → opens_bytes (t ++ m) ≡ true → opens_bytes t ≡ true
 bytes_opened t m h g = grind (arith, raw_stays)

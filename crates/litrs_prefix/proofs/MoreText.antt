@@ -1,12 +1,12 @@
 -- Texts that more text may give another literal at the front.
-use Rattle.litrs_prefix.proofs.Words.{◌≡◌, ◌⊎◌, inl, inr, ℕ, Bool, true, false, List, [], ◌∷◌, ◌++◌, refl, sym, ap, subst, ◌∙◌, append_assoc, arith, list_all, is_empty, IntegerParts, IsIntegerOf, Derivation, an_integer, IsLiteral, literal_parse, starts_identifier, may_follow, HasPrefix, PrefixGoesOn, IsIntegerAndPeriod, is_scalar, IsText, Begins, and_parts, true≢false, nat_tests, append_cancel_left, append_cancel_right, list_all-append, is_xid_start-ascii, front_of}
+use Rattle.litrs_prefix.proofs.Words.{◌≡◌, ◌⊎◌, inl, inr, ℕ, Bool, true, false, List, [], ◌∷◌, ◌++◌, refl, sym, ap, subst, ◌∙◌, append_assoc, arith, list_all, is_empty, IntegerParts, IsIntegerOf, Derivation, an_integer, IsLiteral, literal_parse, may_follow, HasPrefix, PrefixGoesOn, IsIntegerAndPeriod, is_scalar, IsText, Begins, and_parts, true≢false, nat_tests, append_cancel_left, append_cancel_right, list_all-append, is_xid_start-ascii, front_of}
 use Rattle.litrs_prefix.specs.GoesOn.{IsSettled}
 use Rattle.litrs_prefix.proofs.LongerTexts.{whole, stays}
 use Rattle.litrs_prefix.proofs.Unique.{unique}
 
--- a first part of a text is one
-text_of : (m b : List ℕ) → IsText (m ++ b) → IsText m
-text_of m b h = (and_parts (list_all is_scalar m) _ (sym (list_all-append is_scalar m b) ∙ h)).0
+-- the parts of a text are texts
+pub text_parts : (m b : List ℕ) → IsText (m ++ b) → IsText m × IsText b
+text_parts m b h = and_parts (list_all is_scalar m) (list_all is_scalar b) (sym (list_all-append is_scalar m b) ∙ h)
 
 -- a rest that may follow only with more text is a period, after an integer without suffix
 taken_period : (d : IntegerParts) (x : ℕ) (m more : List ℕ) → may_follow (an_integer d) (x ∷ (m ++ more)) ≡ true → may_follow (an_integer d) (x ∷ m) ≡ false →
@@ -23,7 +23,7 @@ pub goes_on_either : (t : List ℕ) → PrefixGoesOn t → Begins literal_parse 
 goes_on_either t h = elim (front_of at.front t h.rest h.more at.spells) [
   | inl (m, is) ↦ (
       let left = append_cancel_left t (m ++ h.rest) h.more (sym (append_assoc t m h.rest) ∙ (ap (λ (l : List ℕ). l ++ h.rest) (sym is) ∙ at.spells)) in
-      inl (m, h.literal, text_of m h.rest (rw left h.is_text), rw is at at.literal))
+      inl (m, h.literal, (text_parts m h.rest (rw left h.is_text)).0, rw is at at.literal))
   | inr (x, m, is) ↦ (
       let left = append_cancel_left at.front h.rest (x ∷ (m ++ h.more)) (at.spells ∙ (ap (λ (l : List ℕ). l ++ h.more) is ∙ append_assoc at.front (x ∷ m) h.more)) in
       go x m is left (may_follow h.literal (x ∷ m)) refl)
@@ -53,12 +53,7 @@ begins_unsettled t b s =
     let ends : [] ≡ s.1 ∷ (s.2 ++ b.0) = both.1 in cc
 
 two_periods : (front : List ℕ) (d : IntegerParts) → IsIntegerOf front d → is_empty d.suffix ≡ true → HasPrefix ((front ++ 46 ∷ []) ++ 46 ∷ []) (an_integer d) (46 ∷ 46 ∷ [])
-two_periods front d h none = record {
-  front = front;
-  spells = sym (append_assoc front (46 ∷ []) (46 ∷ []));
-  literal = h;
-  follows = period_pair d none;
-}
+two_periods front d h none = grind (arith, period_pair, append_assoc)
 
 period_unsettled : (front : List ℕ) (d : IntegerParts) → IsIntegerOf front d → is_empty d.suffix ≡ true → IsSettled (front ++ 46 ∷ []) → ⊥
 period_unsettled front d h none s =
@@ -71,22 +66,12 @@ period_unsettled front d h none s =
     let rest : s.2 ≡ [] = append_cancel_right s.2 [] (46 ∷ []) tail in
     true≢false (sym (rw (← both.0, first, rest) at s.3.follows) ∙ period_alone d none)
 
+pub goes_on_with : (t more : List ℕ) (d : Derivation) (rest : List ℕ) → (IsSettled t → ⊥) → IsText more → HasPrefix (t ++ more) d rest → PrefixGoesOn t
+goes_on_with t more d rest unsettled text found = grind arith
+
 pub begins_goes_on : (t : List ℕ) → Begins literal_parse t → PrefixGoesOn t
-begins_goes_on t b = record {
-  unsettled = λ s. begins_unsettled t b s;
-  more = b.0;
-  is_text = b.2;
-  literal = b.1;
-  rest = [];
-  found = whole (t ++ b.0) b.1 b.3;
-}
+begins_goes_on t b = goes_on_with t b.0 b.1 [] (begins_unsettled t b) b.2 (whole (t ++ b.0) b.1 b.3)
 
 pub period_goes_on : (t : List ℕ) → IsIntegerAndPeriod t → PrefixGoesOn t
-period_goes_on t p = subst PrefixGoesOn p.2 (record {
-  unsettled = λ s. period_unsettled p.0 p.1.0 p.1.1 p.1.2 s;
-  more = 46 ∷ [];
-  is_text = refl;
-  literal = an_integer p.1.0;
-  rest = 46 ∷ 46 ∷ [];
-  found = two_periods p.0 p.1.0 p.1.1 p.1.2;
-})
+period_goes_on t p = subst PrefixGoesOn p.2 (goes_on_with _ (46 ∷ []) (an_integer p.1.0) (46 ∷ 46 ∷ [])
+    (period_unsettled p.0 p.1.0 p.1.1 p.1.2) refl (two_periods p.0 p.1.0 p.1.1 p.1.2))

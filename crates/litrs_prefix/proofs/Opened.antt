@@ -1,6 +1,6 @@
 -- If a literal is at the front of a text, one begins there, and its rest is what follows what opens
 -- there.
-use Rattle.litrs_prefix.proofs.Words.{◌≡◌, ℕ, zero, suc, Bool, true, false, List, ◌∷◌, ◌++◌, refl, sym, ap, ◌∙◌, arith, ◌⊎◌, inl, inr, ◌+◌, ◌<◌, [], drop, subst, append_assoc, ◌==◌, is_ascii_digit, first_passes, char_kind, byte_kind, switches_of, quoted_front, raw_front, char_front, starts_identifier, bool_text, plain_char, escaped_char, char_item_text, is_char_item, IsCharLiteral, hashes, raw_closing, RawParts, IsRawLiteral, Derivation, a_bool, an_integer, a_float, a_char, a_byte, IsLiteral, may_follow, ends_bool, ends_suffix, ends_float, HasPrefix, after_hashes, begins_lifetime, opens_raw, opens, after_run, after_name, PrefixesOpen, list_all, is_xid_continue, Switches, IsFloatOf, is_period, IntegerParts, IsIntegerOf, is_e, IsQuotedLiteral, past_quote, past_single_quote, after_digits, after_fraction, after_exponent, after_single_quote, after_quoted, after_char, after_closing, after_raw, after_number, after_body, after_opened, is_ascii_hexdigit, StringKind, string_kind, byte_string_kind, c_string_kind, is_suffix, CharItem, CharParts, occurs, StringParts, quoted_parts, raw_parts, IsString, a_string, a_byte_string, a_c_string, string_suffix, prefix, is_digit_or_underscore, is_blank, IntegerBase, Binary, Octal, Decimal, Hexadecimal, CharKind, Escape, simple_escape, hex_escape, unicode_escape, escape_text, is_escape, is_hex_or_underscore, FloatParts, Item, plain_item, escape_item, continuation, item_text, is_item, body_text, is_body, QuotedParts, and_parts, or_left, not-true, starts_with_digit, first_passes-append, suffix_no_period, nat_tests, is_xid_start-ascii, is_xid_continue-ascii, if_true, if_false, cut_of_text, hash_len-append}
+use Rattle.litrs_prefix.proofs.Words.{◌≡◌, ℕ, zero, suc, Bool, true, false, List, ◌∷◌, ◌++◌, refl, sym, ap, ◌∙◌, arith, ◌⊎◌, inl, inr, ◌+◌, ◌<◌, [], drop, subst, append_assoc, ◌==◌, is_ascii_digit, first_passes, char_kind, byte_kind, switches_of, quoted_front, raw_front, char_front, starts_identifier, bool_text, plain_char, escaped_char, char_item_text, is_char_item, IsCharLiteral, hashes, raw_closing, RawParts, IsRawLiteral, Derivation, a_bool, an_integer, a_float, a_char, a_byte, IsLiteral, may_follow, ends_bool, ends_suffix, ends_float, HasPrefix, after_hashes, begins_lifetime, opens_raw, opens, after_run, after_name, PrefixesOpen, list_all, is_xid_continue, Switches, IsFloatOf, is_period, IntegerParts, IsIntegerOf, is_e, IsQuotedLiteral, past_quote, past_single_quote, after_digits, after_fraction, after_exponent, after_single_quote, after_quoted, after_char, after_closing, after_raw, after_number, after_body, after_opened, StringKind, string_kind, byte_string_kind, c_string_kind, is_suffix, CharItem, CharParts, occurs, StringParts, quoted_parts, raw_parts, IsString, a_string, a_byte_string, a_c_string, string_suffix, prefix, is_digit_or_underscore, is_blank, IntegerBase, Binary, Octal, Decimal, Hexadecimal, CharKind, Escape, simple_escape, hex_escape, unicode_escape, escape_text, is_escape, is_hex_or_underscore, FloatParts, Item, plain_item, escape_item, continuation, item_text, is_item, body_text, is_body, QuotedParts, and_parts, or_left, not-true, starts_with_digit, first_passes-append, suffix_no_period, nat_tests, is_xid_start-ascii, is_xid_continue-ascii, if_true, if_false, cut_of_text, hash_len-append}
 use Rattle.litrs_grammar.proofs.QuotedItems.{escape_second}
 use Rattle.litrs_grammar.proofs.Laws.Float.{starts_digit}
 use Rattle.litrs_base.proofs.Runs.{list_all-append, list_all-weaken}
@@ -58,9 +58,7 @@ opened t d rest h = ap opens (sym h.spells) ∙ literal_opens h.front rest d h.l
 -- escapes
 
 hex_digits : (w : Switches) (a b : ℕ) → is_escape w (hex_escape a b) ≡ true → list_all is_hex_or_underscore (a ∷ b ∷ []) ≡ true
-hex_digits w a b h =
-    let d = and_parts (is_ascii_hexdigit a) (is_ascii_hexdigit b) (and_parts _ _ (and_parts _ _ h).0).0 in
-    rw (or_left (is_ascii_hexdigit a) (a == 95) d.0, or_left (is_ascii_hexdigit b) (b == 95) d.1) refl
+hex_digits w a b h = grind (arith, nat_tests, and_parts, or_left)
 
 unicode_digits : (w : Switches) (u : List ℕ) → is_escape w (unicode_escape u) ≡ true → list_all is_hex_or_underscore u ≡ true
 unicode_digits w u h = grind arith
@@ -141,10 +139,7 @@ raw_body : (kind : StringKind) (y : List ℕ) → opens_raw y ≡ true → after
 raw_body kind y h = grind arith
 
 pub raw_opened : (kind : StringKind) (n : ℕ) (z : List ℕ) → after_opened (raw_front kind ++ (hashes n ++ (34 ∷ z))) ≡ after_name (after_closing n z)
-raw_opened kind n z =
-    let y : List ℕ = hashes n ++ (34 ∷ z) in
-    ap after_name (raw_body kind y (ap (first_passes (λ c. c == 34)) (after_all n z))
-    ∙ (ap (λ (k : ℕ). after_closing k (drop 1 (after_hashes y))) (hash_len-append n (34 ∷ z) refl) ∙ ap (λ (l : List ℕ). after_closing n (drop 1 l)) (after_all n z)))
+raw_opened kind n z = grind (arith, raw_body, after_all, hash_len-append)
 
 raw_rest : (kind : StringKind) (s r : List ℕ) (d : RawParts) → IsRawLiteral kind s d → ends_suffix d.suffix r ≡ true → after_opened (s ++ r) ≡ r
 raw_rest kind s r d h e =

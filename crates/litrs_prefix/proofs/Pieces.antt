@@ -1,8 +1,9 @@
 -- A piece at the front of a text that is refused.
-use Rattle.litrs_prefix.proofs.Words.{◌≡◌, encode_utf8_all, ◌⊎◌, ℕ, ◌+◌, ◌<◌, ◌^◌, List, ◌++◌, length, take, drop, None, sym, ap, subst, inl, inr, ◌∙◌, append_assoc, append-nil, length-take, [], ◌∷◌, ◌-◌, ◌≤◌, refl, arith, chars, IsUtf8, IsCharBoundary, byte_len, Derivation, IsLiteral, literal_parse, IsLiteralLen, IsMalformedLen, IsMalformedOrOutOfMemory, IsMeant, HasPrefix, ParseError, HasNoDerivation, IsRefused, IsRefusedOrOutOfMemory, Refusal, span_of, MovesWithin, MalformedPrefix, EndsBefore, IsMalformed, chars-append, chars-nil, encodes-chars, IsUtf8-take, chars_ascii, take-append-drop, append_cancel_right, literals_are_unique, cut_at}
+use Rattle.litrs_prefix.proofs.Words.{◌≡◌, IsIntegerAndPeriod, IsBareInteger, ◌↔◌, encode_utf8_all, ◌⊎◌, ℕ, ◌+◌, ◌<◌, ◌^◌, List, ◌++◌, length, take, drop, None, sym, ap, subst, inl, inr, ◌∙◌, append_assoc, append-nil, length-take, [], ◌∷◌, ◌-◌, refl, arith, chars, IsUtf8, IsCharBoundary, byte_len, Derivation, IsLiteral, literal_parse, IsLiteralLen, IsMalformedLen, IsMalformedOrOutOfMemory, IsMeant, HasPrefix, ParseError, HasNoDerivation, IsRefused, IsRefusedOrOutOfMemory, Refusal, span_of, MovesWithin, MalformedPrefix, EndsBefore, IsMalformed, chars-append, encodes-chars, IsUtf8-take, take-append-drop, append_cancel_right, literals_are_unique, cut_at}
 use Rattle.std.proofs.lemmas.Str.{chars-IsAscii, encodes-append, encodes-IsAscii}
 use Rattle.litrs_base.proofs.Chars.{ascii_by_test}
 use Rattle.litrs.proofs.MovedRefusals.{refusal_moves}
+use Rattle.litrs_prefix.specs.MayChange.{IsMalformedFront}
 use Rattle.litrs_prefix.proofs.Ends.{front_is}
 use Rattle.litrs_prefix.proofs.MeantPieces.{meant_longer}
 use Rattle.litrs_prefix.proofs.Unique.{no_literal}
@@ -16,8 +17,7 @@ parts_spell bs front rest n u bound before after =
 
 -- the literal at the front would be the piece
 pub piece_is : (bs front : List ℕ) (n : ℕ) (d : Derivation) (r : List ℕ) → IsUtf8 bs → front ≡ take n bs → EndsBefore bs r n → HasPrefix (chars bs) d r → IsLiteral (chars front) d
-piece_is bs front n d r u before place at =
-    subst (λ (t : List ℕ). IsLiteral t d) (sym (ap chars before ∙ front_is bs n at.front r u place.0 place.1 at.spells)) at.literal
+piece_is bs front n d r u before place at = grind (arith, front_is)
 
 piece_len : (bs front : List ℕ) (n : ℕ) → IsUtf8 bs → IsCharBoundary bs n → front ≡ take n bs → length front ≡ n → byte_len (chars front) ≡ n
 piece_len bs front n u bound before size =
@@ -36,6 +36,10 @@ front_found bs front rest n x u before after (inl is) h =
     let literal = piece_is bs front n is.literal (chars (drop n bs)) u before (is.boundary, refl) is.at_front in
     rw (after, ← literals_are_unique (chars front) is.literal x literal h) is.at_front
 
+-- a malformed front, and its error
+pub malformed_of : (t front : List ℕ) (e : MalformedPrefix) → IsMalformedFront t front → byte_len front ≡ e.len → 0 < e.len → IsRefused literal_parse front e.error → IsMalformed t e
+malformed_of t front e is len some refused = grind arith
+
 -- the error of the literal, valid or malformed, at the front
 pub front_refused : (bs front rest : List ℕ) (n : ℕ) (e : ParseError) → IsUtf8 bs → front ≡ take n bs → rest ≡ drop n bs → length front ≡ n → IsLiteralLen bs n ⊎ IsMalformedLen bs n →
     IsRefusedOrOutOfMemory literal_parse (chars front) e → IsMalformedOrOutOfMemory (chars bs) (record { error = e; len = n })
@@ -49,17 +53,9 @@ front_refused bs front rest n e u before after size (inl is) (inr memory) = inr 
   refused = memory;
   prefix = front_found bs front rest n memory.derivation u before after (inl is) memory.literal;
 })
-front_refused bs front rest n e u before after size (inr is) refused = inl (record {
-  front = chars front;
-  rest = chars rest;
-  spells = parts_spell bs front rest n u is.boundary before after;
-  len = piece_len bs front n u is.boundary before size;
-  some = is.some;
-  meant = subst (λ (l : List ℕ). IsMeant (chars bs) (chars l)) (sym before) is.front.meant;
-  refused = refused_at (chars front) e refused (λ d h. is.front.invalid d (subst (λ (l : List ℕ). IsLiteral (chars l) d) before h));
-  opens = is.front.opens;
-  none = is.front.none;
-})
+front_refused bs front rest n e u before after size (inr is) refused =
+    let malformed : IsMalformedFront (chars bs) (chars front) = rw before is.front in
+    inl (malformed_of (chars bs) (chars front) _ malformed (piece_len bs front n u is.boundary before size) is.some (refused_at (chars front) e refused malformed.invalid))
 
 -- the offset by which the spans of an error are moved fits, if it is within the source text
 pub malformed_moves : (bs : List ℕ) (e : MalformedPrefix) (offset : ℕ) → IsUtf8 bs → offset + length bs < 2 ^ 64 → IsMalformedOrOutOfMemory (chars bs) e → MovesWithin offset e.error
@@ -83,12 +79,14 @@ period_bytes bs front u is =
     ap (λ (l : List ℕ). encode_utf8_all front ++ l) (sym (encodes-IsAscii (46 ∷ []) (ascii_by_test (46 ∷ []) refl)))
     ∙ (sym (encodes-append front (46 ∷ [])) ∙ (ap encode_utf8_all is ∙ encodes-chars bs u))
 
+-- the text before the period, in bytes, is the integer
 pub period_after : (bs front : List ℕ) (n : ℕ) → IsUtf8 bs → front ≡ take (length bs - n) bs → n ≡ 1 → bs ≡ take (length bs - n) bs ++ 46 ∷ [] → IsCharBoundary bs (length bs - 1) →
-    chars front ++ 46 ∷ [] ≡ chars bs
+    IsIntegerAndPeriod (chars bs) ↔ IsBareInteger (chars front)
 period_after bs front n u before one is bound =
     let text : IsUtf8 front = rw (before, one) (IsUtf8-take bs (length bs - 1) u bound) in
     let spells : chars (front ++ 46 ∷ []) ≡ chars bs = ap chars (rw (← before) at (sym is)) in
-    rw (chars-append front (46 ∷ []) text, chars-IsAscii (46 ∷ []) (ascii_by_test (46 ∷ []) refl)) at spells
+    let is = rw (chars-append front (46 ∷ []) text, chars-IsAscii (46 ∷ []) (ascii_by_test (46 ∷ []) refl)) at spells in
+    (λ integer. subst IsBareInteger (append_cancel_right integer.0 (chars front) (46 ∷ []) (integer.2 ∙ sym is)) integer.1, λ bare. (chars front, bare, is))
 
 -- a text without characters has no bytes
 pub no_bytes : (bs : List ℕ) → IsUtf8 bs → chars bs ≡ [] → length bs ≡ 0

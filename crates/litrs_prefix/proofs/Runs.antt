@@ -1,5 +1,5 @@
 -- Names at the front of a text: their ASCII characters are passed by their bytes.
-use Rattle.litrs_prefix.proofs.Words.{◌≡◌, ℕ, ◌<◌, Bool, true, false, List, [], ◌∷◌, ◌++◌, length, drop, refl, sym, ap, subst, ◌∙◌, arith, if◌then◌else◌, nat_le, list_all, prefix_len, chars, IsUtf8, IsCharBoundary, is_xid_continue, begins_with, first_passes, bool_text, is_bool, after_run, after_name, first_name, ltb, true≢false, false_from_ne_true, nat_tests, IsCharBoundary-from_drop, chars-nil, is_xid_continue-ascii, begins_with-split, begins_with-append, OnlyAscii, chars_ascii, begins_with-chars, begins_front, prefix_len-chars, if_false, first_passes-rest, some_bool, is_word, words_are_ascii}
+use Rattle.litrs_prefix.proofs.Words.{◌≡◌, ℕ, Bool, true, false, List, [], ◌∷◌, ◌++◌, length, drop, refl, sym, ap, subst, ◌∙◌, arith, if◌then◌else◌, nat_le, list_all, prefix_len, chars, IsUtf8, IsCharBoundary, is_xid_continue, begins_with, first_passes, bool_text, is_bool, after_run, after_name, first_name, ltb, true≢false, false_from_ne_true, nat_tests, IsCharBoundary-from_drop, chars-nil, is_xid_continue-ascii, begins_with-split, begins_with-append, OnlyAscii, chars_ascii, begins_with-chars, begins_front, prefix_len-chars, first_passes-rest, some_bool, is_word, words_are_ascii}
 use Rattle.litrs_base.proofs.Chars.{ascii_from_test, passing_front}
 use Rattle.litrs_prefix.proofs.Names.{name_and_rest}
 

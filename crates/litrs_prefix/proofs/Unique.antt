@@ -39,10 +39,7 @@ bool_of false (c ∷ s) r x d h is =
 
 pub at_bool : (P : Type 0) (t r x : List ℕ) (d : Derivation) (v : Bool) → HasPrefix t d r → bool_text v ++ x ≡ t →
     ((b : Bool) → bool_text b ++ r ≡ t → ends_bool r ≡ true → P) → P
-at_bool P t r x d v at is found =
-    let bool = bool_of v at.front r x d at.literal (at.spells ∙ sym is) in
-    let here : HasPrefix t (a_bool bool.0) r = subst (λ (e : Derivation). HasPrefix t e r) bool.1 at in
-    found bool.0 (ap (λ (l : List ℕ). l ++ r) here.literal ∙ here.spells) here.follows
+at_bool P t r x d v at is found = grind (arith, bool_of)
 
 -- an integer without a suffix may end before what opens there does
 bare_rest : (t r u : List ℕ) (x : IntegerParts) (e : Derivation) → HasPrefix t (an_integer x) r → HasPrefix t e u → IsNumber e → r ≡ u

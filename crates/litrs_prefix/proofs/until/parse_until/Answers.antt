@@ -1,5 +1,5 @@
 -- The text before the delimiter is a front of what follows `start`.
-use Rattle.litrs_prefix.proofs.Words.{◌≡◌, List, ℕ, drop, sym, ap, subst, ◌∙◌, arith, chars, byte_len, byte_len-all, literal_parse, after_literal, before_delimiter, IsRefusedOrOutOfMemory, after_bytes, end_of_end}
+use Rattle.litrs_prefix.proofs.Words.{List, ℕ, drop, sym, ap, subst, ◌∙◌, arith, chars, byte_len, byte_len-all, literal_parse, after_literal, before_delimiter, IsRefusedOrOutOfMemory, after_bytes, end_of_end}
 use Rattle.litrs.proofs.MovedRefusals.{error_moves}
 use Rattle.litrs_prefix.proofs.Delimiters.{starts_with_delimiter, before_front, refused_marks}
 use Rattle.litrs_prefix.proofs.until.parse_until.Goals as goal

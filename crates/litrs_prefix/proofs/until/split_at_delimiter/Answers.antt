@@ -1,5 +1,5 @@
 -- The text before the delimiter is a front of the text.
-use Rattle.litrs_prefix.proofs.Words.{List, ℕ, ap, ◌∙◌, chars, drop_trailing_whitespace}
+use Rattle.litrs_prefix.proofs.Words.{ap, ◌∙◌, chars, drop_trailing_whitespace}
 use Rattle.litrs_prefix.proofs.Delimiters.{delimiter_at, trimmed}
 use Rattle.litrs_prefix.proofs.until.split_at_delimiter.Goals as goal
 
