@@ -1,10 +1,9 @@
 -- The text before a delimiter is a front of the text.
-use Rattle.litrs_prefix.proofs.Words.{◌≡◌, subst, cases_Bool, inl, inr, ℕ, ◌-◌, ◌&&◌, List, [], ◌∷◌, ◌++◌, length, take, drop, refl, sym, ap, ◌∙◌, append_assoc, length-append, arith, ◌==◌, if◌then◌else◌, chars, IsUtf8, IsCharBoundary, drop_trailing_whitespace, IsEndOf, IsMarkedAt, opens, from_first, after_literal, from_delimiter, before_delimiter, StartsWithDelimiter, IsRefusedUntil, is_whitespace, MalformedPrefix}
+use Rattle.litrs_prefix.proofs.Words.{◌≡◌, subst, cases_Bool, inl, inr, ℕ, ◌-◌, ◌&&◌, List, [], ◌∷◌, ◌++◌, length, take, refl, sym, ap, ◌∙◌, append_assoc, length-append, arith, ◌==◌, if◌then◌else◌, chars, IsUtf8, drop_trailing_whitespace, IsEndOf, opens, from_first, after_literal, from_delimiter, before_delimiter, StartsWithDelimiter, is_whitespace}
 use Rattle.std.proofs.Common.{take_at}
 use Rattle.std.specs.Str.{trim_end}
 use Rattle.std.proofs.lemmas.Str.{chars_from_encodes}
 use Rattle.litrs_prefix.proofs.Ends.{all as whole, bytes_spell, end_of_end}
-use Rattle.litrs_prefix.proofs.Marks.{front_marks}
 use Rattle.litrs_prefix.proofs.MeantEnds.{EndsAt, ends_at, next, either, opened_piece}
 
 -- the searched text ends with the text, and so does the found rest
@@ -47,11 +46,6 @@ before_front ds t =
 pub trimmed : (bs r : List ℕ) → IsUtf8 r → r ≡ trim_end bs → chars r ≡ drop_trailing_whitespace (chars bs)
 unfolding trim_end
 trimmed bs r u is = sym (chars_from_encodes (drop_trailing_whitespace (chars bs)) r u (sym is))
-
--- the part that the error of a front of the text after `start` bytes marks
-pub refused_marks : (bs front more : List ℕ) (start : ℕ) (e : MalformedPrefix) → IsUtf8 bs → IsCharBoundary bs start →
-    front ++ more ≡ chars (drop start bs) → IsRefusedUntil start front e → IsMarkedAt start bs e
-refused_marks bs front more start e u bound spells at = front_marks bs front more start e at.of_text u bound spells (sym at.len) at.char_span at.refused
 
 -- the place of the delimiter, in bytes
 pub delimiter_at : (ds text after rest : List ℕ) → IsUtf8 text → IsUtf8 rest → after ≡ after_literal (chars text) → chars rest ≡ from_first ds after →

@@ -1,5 +1,5 @@
 -- The bytes of the source can be cut at the places that an error at the front of a text marks.
-use Rattle.litrs_prefix.proofs.Words.{◌≡◌, ℕ, ◌+◌, ◌≤◌, List, ◌++◌, length, take, drop, Option, Some, None, IfSome, IsUtf8, inl, inr, refl, sym, ap, subst, ◌∙◌, length-drop, arith, chars, IsCharBoundary, byte_len, literal_parse, IsMalformedOrOutOfMemory, IsMarkedAt, unwrap_or, Refusal, char_span_of, shifted_span, ParseError, IsRefusedOrOutOfMemory, MalformedPrefix, prefix_span, length-take-le, IsUtf8-drop, IsUtf8-take, IsCharBoundary-start, cut_at}
+use Rattle.litrs_prefix.proofs.Words.{◌≡◌, ℕ, ◌+◌, ◌≤◌, List, ◌++◌, length, take, drop, Option, Some, None, IfSome, IsUtf8, inl, inr, refl, sym, ap, ◌∙◌, length-drop, arith, chars, IsCharBoundary, byte_len, literal_parse, IsMalformedOrOutOfMemory, IsMarkedAt, unwrap_or, Refusal, char_span_of, shifted_span, ParseError, IsRefusedOrOutOfMemory, MalformedPrefix, prefix_span, length-take-le, IsUtf8-drop, IsUtf8-take, IsCharBoundary-start, cut_at}
 use Rattle.std.specs.declared.ops.Range.{Range}
 use Rattle.std.proofs.Common.{add_comm}
 use Rattle.std.proofs.lemmas.List.{get_or-take}
@@ -28,8 +28,7 @@ span_cut bs front rest start piece (Some span) p utf8 bound spells whole same al
     let cut = cut_at text front rest after (sym spells) in
     let n : ℕ = byte_len front in
     let is : chars (take n text) ≡ front = front_is text n front rest after cut.boundary cut.rest spells in
-    let points = subst (λ (t : List ℕ). PointsAtCharacters t span) (sym is) all in
-    let inside = points_cut (take n text) span (IsUtf8-take text n after cut.boundary) points in
+    let inside = points_cut (take n text) span (IsUtf8-take text n after cut.boundary) (rw is all) in
     rw same (cut_after bs start span bound.0 (cut_in text n span cut.boundary inside))
 
 piece_cut : (bs front rest : List ℕ) (start : ℕ) (e : MalformedPrefix) → IsUtf8 bs → IsCharBoundary bs start → front ++ rest ≡ chars (drop start bs) → byte_len front ≡ e.len →

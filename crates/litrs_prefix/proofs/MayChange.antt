@@ -2,6 +2,7 @@
 use Rattle.litrs_prefix.proofs.Words.{◌≡◌, MalformedPrefix, IsMalformed, ◌⊎◌, inl, inr, eqb, ltb, ℕ, Bool, true, false, ◌||◌, List, [], ◌∷◌, ◌++◌, length, length-append, refl, sym, ap, ◌∙◌, append_assoc, append-nil, arith, codes, list_all, chars, IsUtf8, first_passes, is_empty, bool_text, is_bool, Derivation, a_bool, literal_parse, is_quote, PrefixGoesOn, MalformedStay, AnswerStays, AnswerChanges, OpensNever, OpensLater, is_open_prefix, is_open_front, is_quoted_line_feed, after_opened, first_name, after_name, after_hashes, begins_lifetime, opens_raw, opens_bytes, opens_c_string, opens, may_follow, HasPrefix, HasNoPrefix, pointwise, is_scalar, IsText, is_text, Begins, first_run, and_left, cases_Bool, true≢false, false≢true, false_from_ne_true, nat_tests, append_cancel_left, is_xid_start-ascii, some_bool}
 use Rattle.litrs_base.proofs.Chars.{is_text-chars}
 use Rattle.std.proofs.lemmas.Bool.{or_cases, or_parts}
+use Rattle.litrs_grammar.proofs.Laws.Float.{empty-true}
 use Rattle.litrs_grammar.proofs.Laws.Literal.{is_text-is}
 use Rattle.litrs_prefix.specs.MayChange.{Answer, none, literal, malformed, IsMalformedFront, IsAnswer}
 use Rattle.litrs_prefix.proofs.Names.{quote_stops, Opening, opening}
@@ -19,7 +20,7 @@ use Rattle.litrs_prefix.proofs.Pieces.{malformed_of}
 longer_front : (t : List ℕ) (c : ℕ) (m front : List ℕ) → after_opened (t ++ c ∷ m) ≡ [] → IsMalformedFront t front → IsMalformedFront (t ++ c ∷ m) front → ⊥
 longer_front t c m front taken is longer =
     let opened = ap length longer.meant.opened in
-    absurd (omega (arith, length-append {A = ℕ}, ap length is.spells, ap length longer.meant.longer, opened, ap length taken))
+    absurd (omega (arith, length-append {A = ℕ}, ap length is.spells, ap length longer.meant.longer, ap length taken))
 
 malformed_by : (t more : List ℕ) → opens t ≡ true → HasNoPrefix t → IsText more → ((front : List ℕ) → IsMalformedFront t front → IsMalformedFront (t ++ more) front → ⊥) → AnswerChanges t
 malformed_by t more h absent text differ = (more, text, go)
@@ -35,12 +36,9 @@ malformed_changes t c m h absent text taken = malformed_by t (c ∷ m) h absent 
 pub malformed_completes : (t : List ℕ) → opens t ≡ true → HasNoPrefix t → PrefixGoesOn t → AnswerChanges t
 malformed_completes t h absent more = malformed_by t more.more h absent more.is_text (λ front is longer. longer.none more.literal more.rest more.found)
 
-pub is_nothing : (l : List ℕ) → is_empty l ≡ true → l ≡ []
-is_nothing l h = grind arith
-
 -- all of the text is taken, and so is a letter after it
 pub malformed_reaches_end : (t : List ℕ) → opens t ≡ true → HasNoPrefix t → is_empty (after_opened t) ≡ true → AnswerChanges t
-malformed_reaches_end t h absent end = malformed_changes t 120 [] h absent refl (letter_is_taken t h (is_nothing (after_opened t) end))
+malformed_reaches_end t h absent end = malformed_changes t 120 [] h absent refl (letter_is_taken t h (empty-true _ end))
 
 -- a test of the bytes is one of the characters
 text_test : (w bs : List ℕ) → is_text w bs ≡ pointwise eqb bs w

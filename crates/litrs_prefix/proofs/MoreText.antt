@@ -8,14 +8,9 @@ use Rattle.litrs_prefix.proofs.Unique.{unique}
 pub text_parts : (m b : List ℕ) → IsText (m ++ b) → IsText m × IsText b
 text_parts m b h = and_parts (list_all is_scalar m) (list_all is_scalar b) (sym (list_all-append is_scalar m b) ∙ h)
 
--- a rest that may follow only with more text is a period, after an integer without suffix
-taken_period : (d : IntegerParts) (x : ℕ) (m more : List ℕ) → may_follow (an_integer d) (x ∷ (m ++ more)) ≡ true → may_follow (an_integer d) (x ∷ m) ≡ false →
-    (x ≡ 46) × (m ≡ []) × (is_empty d.suffix ≡ true)
-taken_period d x m more h g = grind (arith, nat_tests)
-
 by_more : (d : Derivation) (x : ℕ) (m more : List ℕ) → may_follow d (x ∷ (m ++ more)) ≡ true → may_follow d (x ∷ m) ≡ false →
     (e : IntegerParts) × (d ≡ an_integer e) × (x ≡ 46) × (m ≡ []) × (is_empty e.suffix ≡ true)
-by_more (an_integer d) x m more h g = let p = taken_period d x m more h g in (d, refl, p.0, p.1, p.2)
+by_more (an_integer d) x m more h g = (d, refl, grind (arith, nat_tests), grind (arith, nat_tests), grind (arith, nat_tests))
 by_more d x m more h g = absurd (true≢false (sym h ∙ g))
 
 -- a longer text with a literal at its front
@@ -39,9 +34,6 @@ goes_on_either t h = elim (front_of at.front t h.rest h.more at.spells) [
         let tail : x ∷ m ≡ 46 ∷ [] = (λ i. p.2 i ∷ p.3 i) in
         inr (at.front, (p.0, subst (λ (e : Derivation). IsLiteral at.front e) p.1 at.literal, p.4), ap (λ (l : List ℕ). at.front ++ l) (sym tail) ∙ sym is)
 
-period_pair : (d : IntegerParts) → is_empty d.suffix ≡ true → may_follow (an_integer d) (46 ∷ 46 ∷ []) ≡ true
-period_pair d none = grind (arith, is_xid_start-ascii)
-
 period_alone : (d : IntegerParts) → is_empty d.suffix ≡ true → may_follow (an_integer d) (46 ∷ []) ≡ false
 period_alone d none = grind (arith, is_xid_start-ascii)
 
@@ -49,21 +41,18 @@ period_alone d none = grind (arith, is_xid_start-ascii)
 begins_unsettled : (t : List ℕ) → Begins literal_parse t → IsSettled t → ⊥
 begins_unsettled t b s =
     let longer = stays t s.0 s.1 s.2 b.0 s.3 in
-    let both = unique (t ++ b.0) b.1 s.0 [] (s.1 ∷ (s.2 ++ b.0)) (whole (t ++ b.0) b.1 b.3) longer in
-    let ends : [] ≡ s.1 ∷ (s.2 ++ b.0) = both.1 in cc
+    let both = unique (t ++ b.0) b.1 s.0 [] (s.1 ∷ (s.2 ++ b.0)) (whole (t ++ b.0) b.1 b.3) longer in cc
 
 two_periods : (front : List ℕ) (d : IntegerParts) → IsIntegerOf front d → is_empty d.suffix ≡ true → HasPrefix ((front ++ 46 ∷ []) ++ 46 ∷ []) (an_integer d) (46 ∷ 46 ∷ [])
-two_periods front d h none = grind (arith, period_pair, append_assoc)
+two_periods front d h none = grind (arith, is_xid_start-ascii, append_assoc)
 
 period_unsettled : (front : List ℕ) (d : IntegerParts) → IsIntegerOf front d → is_empty d.suffix ≡ true → IsSettled (front ++ 46 ∷ []) → ⊥
 period_unsettled front d h none s =
     let t = front ++ 46 ∷ [] in
     let longer = stays t s.0 s.1 s.2 (46 ∷ []) s.3 in
     let both = unique (t ++ 46 ∷ []) (an_integer d) s.0 (46 ∷ 46 ∷ []) (s.1 ∷ (s.2 ++ 46 ∷ [])) (two_periods front d h none) longer in
-    let rests : 46 ∷ 46 ∷ [] ≡ s.1 ∷ (s.2 ++ 46 ∷ []) = both.1 in
     let first : s.1 ≡ 46 = cc in
-    let tail : s.2 ++ 46 ∷ [] ≡ 46 ∷ [] = cc in
-    let rest : s.2 ≡ [] = append_cancel_right s.2 [] (46 ∷ []) tail in
+    let rest : s.2 ≡ [] = append_cancel_right s.2 [] (46 ∷ []) (cc) in
     true≢false (sym (rw (← both.0, first, rest) at s.3.follows) ∙ period_alone d none)
 
 pub goes_on_with : (t more : List ℕ) (d : Derivation) (rest : List ℕ) → (IsSettled t → ⊥) → IsText more → HasPrefix (t ++ more) d rest → PrefixGoesOn t

@@ -24,9 +24,7 @@ name_after (c ∷ s) r h e = grind (arith, run_after s r)
 
 -- the name of a suffix is the suffix
 name_first : (s r : List ℕ) → is_suffix s ≡ true → ends_suffix s r ≡ true → first_name (s ++ r) ≡ s
-name_first s r h e =
-    let t = s ++ r in
-    append_cancel_right (first_name t) s r (ap (λ (l : List ℕ). first_name t ++ l) (sym (name_after s r h e)) ∙ name_and_rest t)
+name_first s r h e = append_cancel_right (first_name (s ++ r)) s r (rw (name_after s r h e) at (name_and_rest (s ++ r)))
 
 pub same_suffix : SuffixesAreUnique
 same_suffix s x r y h g e f same =

@@ -1,6 +1,6 @@
 -- If a literal is at the front of a text, one begins there, and its rest is what follows what opens
 -- there.
-use Rattle.litrs_prefix.proofs.Words.{◌≡◌, ℕ, zero, suc, Bool, true, false, List, ◌∷◌, ◌++◌, refl, sym, ap, ◌∙◌, arith, ◌⊎◌, inl, inr, ◌+◌, ◌<◌, [], drop, subst, append_assoc, ◌==◌, is_ascii_digit, first_passes, char_kind, byte_kind, switches_of, quoted_front, raw_front, char_front, starts_identifier, bool_text, plain_char, escaped_char, char_item_text, is_char_item, IsCharLiteral, hashes, raw_closing, RawParts, IsRawLiteral, Derivation, a_bool, an_integer, a_float, a_char, a_byte, IsLiteral, may_follow, ends_bool, ends_suffix, ends_float, HasPrefix, after_hashes, begins_lifetime, opens_raw, opens, after_run, after_name, PrefixesOpen, list_all, is_xid_continue, Switches, IsFloatOf, is_period, IntegerParts, IsIntegerOf, is_e, IsQuotedLiteral, past_quote, past_single_quote, after_digits, after_fraction, after_exponent, after_single_quote, after_quoted, after_char, after_closing, after_raw, after_number, after_body, after_opened, StringKind, string_kind, byte_string_kind, c_string_kind, is_suffix, CharItem, CharParts, occurs, StringParts, quoted_parts, raw_parts, IsString, a_string, a_byte_string, a_c_string, string_suffix, prefix, is_digit_or_underscore, is_blank, IntegerBase, Binary, Octal, Decimal, Hexadecimal, CharKind, Escape, simple_escape, hex_escape, unicode_escape, escape_text, is_escape, is_hex_or_underscore, FloatParts, Item, plain_item, escape_item, continuation, item_text, is_item, body_text, is_body, QuotedParts, and_parts, or_left, not-true, starts_with_digit, first_passes-append, suffix_no_period, nat_tests, is_xid_start-ascii, is_xid_continue-ascii, if_true, if_false, cut_of_text, hash_len-append}
+use Rattle.litrs_prefix.proofs.Words.{◌≡◌, ℕ, zero, suc, Bool, true, false, List, ◌∷◌, ◌++◌, refl, sym, ap, ◌∙◌, arith, ◌⊎◌, inl, inr, ◌+◌, ◌<◌, [], drop, subst, append_assoc, ◌==◌, is_ascii_digit, first_passes, char_kind, byte_kind, switches_of, quoted_front, raw_front, char_front, starts_identifier, bool_text, plain_char, escaped_char, char_item_text, is_char_item, IsCharLiteral, hashes, raw_closing, RawParts, IsRawLiteral, Derivation, a_bool, an_integer, a_float, a_char, a_byte, IsLiteral, may_follow, ends_bool, ends_suffix, ends_float, HasPrefix, after_hashes, begins_lifetime, opens_raw, opens, after_name, PrefixesOpen, list_all, is_xid_continue, Switches, IsFloatOf, IntegerParts, IsIntegerOf, is_e, IsQuotedLiteral, past_quote, past_single_quote, after_single_quote, after_quoted, after_char, after_closing, after_raw, after_number, after_body, after_opened, StringKind, string_kind, byte_string_kind, c_string_kind, is_suffix, CharItem, CharParts, occurs, StringParts, quoted_parts, raw_parts, IsString, a_string, a_byte_string, a_c_string, string_suffix, prefix, is_digit_or_underscore, is_blank, IntegerBase, Binary, Octal, Decimal, Hexadecimal, CharKind, Escape, simple_escape, hex_escape, unicode_escape, escape_text, is_escape, is_hex_or_underscore, FloatParts, Item, plain_item, escape_item, continuation, item_text, is_item, body_text, is_body, QuotedParts, and_parts, or_left, not-true, starts_with_digit, first_passes-append, suffix_no_period, nat_tests, is_xid_start-ascii, is_xid_continue-ascii, cut_of_text, hash_len-append}
 use Rattle.litrs_grammar.proofs.QuotedItems.{escape_second}
 use Rattle.litrs_grammar.proofs.Laws.Float.{starts_digit}
 use Rattle.litrs_base.proofs.Runs.{list_all-append, list_all-weaken}
@@ -91,16 +91,14 @@ body_passed : (w : Switches) (items : List Item) (x : List ℕ) → is_body w it
 body_passed w [] x h = refl
 body_passed w (a ∷ items) x h =
     let p = and_parts _ _ h in
-    ap (past_quote 34 false) (append_assoc (item_text a) (body_text items) (34 ∷ x))
-    ∙ (item_passed w a (body_text items ++ 34 ∷ x) (and_parts _ _ p.0).0 ∙ body_passed w items x p.1)
+    rw (append_assoc (item_text a) (body_text items) (34 ∷ x), item_passed w a (body_text items ++ 34 ∷ x) (and_parts _ _ p.0).0) (body_passed w items x p.1)
 
 pub quoted_opened : (kind : StringKind) (y : List ℕ) → after_opened (quoted_front kind ++ y) ≡ after_name (past_quote 34 false y)
 quoted_opened kind y = (let body : after_body (quoted_front kind ++ y) ≡ after_quoted y = grind arith in ap after_name (body ∙ sym (past_quote_is 34 refl y)))
 
 quoted_rest : (kind : StringKind) (s r : List ℕ) (q : QuotedParts) → IsQuotedLiteral kind s q → ends_suffix q.suffix r ≡ true → after_opened (s ++ r) ≡ r
 quoted_rest kind s r q h e =
-    ap after_opened (longer (quoted_front kind) _ s r q h)
-    ∙ (quoted_opened kind _ ∙ (ap after_name (body_passed _ q.items (q.suffix ++ r) h.body) ∙ name_after q.suffix r h.suffix e))
+    rw (longer (quoted_front kind) _ s r q h, quoted_opened kind (body_text q.items ++ 34 ∷ (q.suffix ++ r)), body_passed _ q.items (q.suffix ++ r) h.body) (name_after q.suffix r h.suffix e)
 
 -- chars and bytes
 
@@ -126,9 +124,8 @@ item_closed kind (escaped_char e) x h = after_escape e (39 ∷ x) ∙ (sym (past
 
 char_rest : (kind : CharKind) (s r : List ℕ) (d : CharParts) → IsCharLiteral kind s d → ends_suffix d.suffix r ≡ true → after_opened (s ++ r) ≡ r
 char_rest kind s r d h e =
-    let y : List ℕ = char_item_text d.item ++ 39 ∷ (d.suffix ++ r) in
-    let body : after_body (char_front kind ++ y) ≡ after_char y = grind arith in
-    ap after_opened (longer_char kind s r d h) ∙ (ap after_name (body ∙ item_closed kind d.item (d.suffix ++ r) h.item) ∙ name_after d.suffix r h.suffix e)
+    let body : (y : List ℕ) → after_body (char_front kind ++ y) ≡ after_char y = λ y. grind arith in
+    rw (longer_char kind s r d h, body (char_item_text d.item ++ 39 ∷ (d.suffix ++ r)), item_closed kind d.item (d.suffix ++ r) h.item) (name_after d.suffix r h.suffix e)
 
 -- raw strings
 
@@ -143,8 +140,7 @@ raw_opened kind n z = grind (arith, raw_body, after_all, hash_len-append)
 
 raw_rest : (kind : StringKind) (s r : List ℕ) (d : RawParts) → IsRawLiteral kind s d → ends_suffix d.suffix r ≡ true → after_opened (s ++ r) ≡ r
 raw_rest kind s r d h e =
-    ap after_opened (longer_raw kind s r d h)
-    ∙ (raw_opened kind d.hash_count _ ∙ (ap after_name (raw_closed d.hash_count d.body (d.suffix ++ r) h.grammar.body.unclosed) ∙ name_after d.suffix r h.grammar.suffix e))
+    rw (longer_raw kind s r d h, raw_opened kind d.hash_count, raw_closed d.hash_count d.body (d.suffix ++ r) h.grammar.body.unclosed) (name_after d.suffix r h.grammar.suffix e)
 
 string_rest : (kind : StringKind) (s r : List ℕ) (d : StringParts) → IsString kind s d → ends_suffix (string_suffix d) r ≡ true → after_opened (s ++ r) ≡ r
 string_rest kind s r (quoted_parts d) h e = quoted_rest kind s r d h e
@@ -163,9 +159,7 @@ number_body t h = grind arith
 float_rest : (s r : List ℕ) (d : FloatParts) → IsFloatOf s d → ends_suffix d.suffix r ≡ true → ends_float d r ≡ true → after_opened (s ++ r) ≡ r
 float_rest s r d h e f =
     let digit = first_passes-append is_ascii_digit s r (ap (first_passes is_ascii_digit) (sym h.spells) ∙ (starts_digit d.integer _ h.grammar.integer).1) in
-    let number : after_number (s ++ r) ≡ d.suffix ++ r =
-    ap after_number (longer_float d s r h) ∙ ap (λ (p : FloatParts). p.suffix) (cut_of_text (with_rest d r) (float_cut_stays d s r h e f)) in
-    ap after_name (number_body (s ++ r) digit ∙ number) ∙ name_after d.suffix r h.grammar.suffix e
+    rw (number_body (s ++ r) digit, longer_float d s r h, cut_of_text (with_rest d r) (float_cut_stays d s r h e f), after_number) (name_after d.suffix r h.grammar.suffix e)
 
 word_continues : (base : IntegerBase) (c : ℕ) → is_digit_or_underscore base c ≡ true → is_xid_continue c ≡ true
 word_continues base c h = let low : c < 128 = grind (arith, nat_tests) in is_xid_continue-ascii c low ∙ grind (arith, nat_tests)
@@ -174,19 +168,13 @@ word_continues base c h = let low : c < 128 = grind (arith, nat_tests) in is_xid
 letter_rest : (base : IntegerBase) (b : ℕ) (m : List ℕ) (c : ℕ) (x r : List ℕ) → starts_identifier b ≡ true → list_all (is_digit_or_underscore base) m ≡ true →
     is_suffix (c ∷ x) ≡ true → ends_suffix (c ∷ x) r ≡ true → after_name (b ∷ (m ++ (c ∷ (x ++ r)))) ≡ r
 letter_rest base b m c x r starts digits suffix e =
-    if_true (starts_identifier b) (after_run (m ++ (c ∷ (x ++ r)))) (b ∷ (m ++ (c ∷ (x ++ r)))) starts
-    ∙ (ap after_run (sym (append_assoc m (c ∷ x) r))
-    ∙ run_after (m ++ (c ∷ x)) r
-    (list_all-append is_xid_continue m (c ∷ x) (list_all-weaken (is_digit_or_underscore base) is_xid_continue (word_continues base) m digits) (suffix_continues (c ∷ x) suffix))
-    (not-true _ e))
+    let passes = list_all-weaken (is_digit_or_underscore base) is_xid_continue (word_continues base) m digits in
+    rw (starts, ← append_assoc m (c ∷ x) r) (run_after (m ++ (c ∷ x)) r (list_all-append is_xid_continue m (c ∷ x) passes (suffix_continues (c ∷ x) suffix)) (not-true _ e))
 
 base_rest : (base : IntegerBase) (m : List ℕ) (c : ℕ) (x r : List ℕ) → list_all (is_digit_or_underscore base) m ≡ true → is_digit_or_underscore base c ≡ false →
     is_suffix (c ∷ x) ≡ true → is_e c ≡ false → ends_suffix (c ∷ x) r ≡ true → after_name (after_number (prefix base ++ (m ++ (c ∷ (x ++ r))))) ≡ r
 base_rest Decimal m c x r digits ends suffix letter e =
-    let y : List ℕ = c ∷ (x ++ r) in
-    ap after_name (number_parts (m ++ y) ∙ (ap (λ (l : List ℕ). after_exponent (after_fraction l)) (digits_passed m y digits ends)
-    ∙ (ap after_exponent (if_false (is_period c) (after_digits (x ++ r)) y (suffix_no_period (c ∷ x) suffix)) ∙ if_false (is_e c) _ y letter)))
-    ∙ name_after (c ∷ x) r suffix e
+    rw (number_parts (m ++ (c ∷ (x ++ r))), digits_passed m (c ∷ (x ++ r)) digits ends, suffix_no_period (c ∷ x) suffix, letter) (name_after (c ∷ x) r suffix e)
 base_rest Binary m c x r digits ends suffix letter e =
     ap after_name (number_parts (48 ∷ 98 ∷ (m ++ (c ∷ (x ++ r))))) ∙ letter_rest Binary 98 m c x r (is_xid_start-ascii 98 (omega arith)) digits suffix e
 base_rest Octal m c x r digits ends suffix letter e =
@@ -206,10 +194,9 @@ number_rest base m (c ∷ x) r digits ends suffix letter e = inl (base_rest base
 
 integer_rest : (s r : List ℕ) (d : IntegerParts) → IsIntegerOf s d → ends_suffix d.suffix r ≡ true → (after_opened (s ++ r) ≡ r) ⊎ IsBare (an_integer d)
 integer_rest s r d h e =
-    let digit = first_passes-append is_ascii_digit s r (starts_with_digit s d h) in
     let g = h.grammar in
-    elim (subst (λ (t : List ℕ). (after_name (after_number t) ≡ r) ⊎ (d.suffix ≡ [])) (sym (longer_integer s r d h)) (number_rest d.base d.main d.suffix r g.digits g.ends g.suffix g.no_exponent e)) [
-      | inl is ↦ inl (ap after_name (number_body (s ++ r) digit) ∙ is)
+    elim (number_rest d.base d.main d.suffix r g.digits g.ends g.suffix g.no_exponent e) [
+      | inl is ↦ inl (rw (number_body (s ++ r) (first_passes-append is_ascii_digit s r (starts_with_digit s d h)), longer_integer s r d h) is)
       | inr bare ↦ inr (d, refl, bare)
     ]
 

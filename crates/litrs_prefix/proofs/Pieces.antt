@@ -1,5 +1,5 @@
 -- A piece at the front of a text that is refused.
-use Rattle.litrs_prefix.proofs.Words.{◌≡◌, IsIntegerAndPeriod, IsBareInteger, ◌↔◌, encode_utf8_all, ◌⊎◌, ℕ, ◌+◌, ◌<◌, ◌^◌, List, ◌++◌, length, take, drop, None, sym, ap, subst, inl, inr, ◌∙◌, append_assoc, append-nil, length-take, [], ◌∷◌, ◌-◌, refl, arith, chars, IsUtf8, IsCharBoundary, byte_len, Derivation, IsLiteral, literal_parse, IsLiteralLen, IsMalformedLen, IsMalformedOrOutOfMemory, IsMeant, HasPrefix, ParseError, HasNoDerivation, IsRefused, IsRefusedOrOutOfMemory, Refusal, span_of, MovesWithin, MalformedPrefix, EndsBefore, IsMalformed, chars-append, encodes-chars, IsUtf8-take, take-append-drop, append_cancel_right, literals_are_unique, cut_at}
+use Rattle.litrs_prefix.proofs.Words.{◌≡◌, nat_eq, false, is_empty, nat_tests, chars_empty, IsUtf8-drop, length-drop, IsIntegerAndPeriod, IsBareInteger, ◌↔◌, encode_utf8_all, ◌⊎◌, ℕ, ◌+◌, ◌<◌, ◌^◌, List, ◌++◌, length, take, drop, None, sym, ap, subst, inl, inr, ◌∙◌, append_assoc, append-nil, length-take, [], ◌∷◌, ◌-◌, refl, arith, chars, IsUtf8, IsCharBoundary, byte_len, Derivation, IsLiteral, literal_parse, IsLiteralLen, IsMalformedLen, IsMalformedOrOutOfMemory, IsMeant, HasPrefix, ParseError, HasNoDerivation, IsRefused, IsRefusedOrOutOfMemory, Refusal, span_of, MovesWithin, MalformedPrefix, EndsBefore, IsMalformed, chars-append, encodes-chars, IsUtf8-take, take-append-drop, append_cancel_right, literals_are_unique, cut_at}
 use Rattle.std.proofs.lemmas.Str.{chars-IsAscii, encodes-append, encodes-IsAscii}
 use Rattle.litrs_base.proofs.Chars.{ascii_by_test}
 use Rattle.litrs.proofs.MovedRefusals.{refusal_moves}
@@ -11,9 +11,7 @@ use Rattle.litrs_prefix.proofs.Unique.{no_literal}
 -- the two parts of a text that is cut at a character
 pub parts_spell : (bs front rest : List ℕ) (n : ℕ) → IsUtf8 bs → IsCharBoundary bs n → front ≡ take n bs → rest ≡ drop n bs → chars front ++ chars rest ≡ chars bs
 parts_spell bs front rest n u bound before after =
-    ap (λ (l : List ℕ). chars l ++ chars rest) before
-    ∙ (ap (λ (l : List ℕ). chars (take n bs) ++ chars l) after
-    ∙ (sym (chars-append (take n bs) (drop n bs) (IsUtf8-take bs n u bound)) ∙ ap chars (take-append-drop n bs)))
+    rw (before, after, ← chars-append (take n bs) (drop n bs) (IsUtf8-take bs n u bound), take-append-drop n bs) refl
 
 -- the literal at the front would be the piece
 pub piece_is : (bs front : List ℕ) (n : ℕ) (d : Derivation) (r : List ℕ) → IsUtf8 bs → front ≡ take n bs → EndsBefore bs r n → HasPrefix (chars bs) d r → IsLiteral (chars front) d
@@ -69,9 +67,7 @@ malformed_moves bs e offset u small (inr is) = λ x same. let none : span_of e.e
 
 -- no literal is empty, so that none ends where the text begins
 pub no_empty_piece : (bs : List ℕ) (d : Derivation) (r : List ℕ) → HasPrefix (chars bs) d r → EndsBefore bs r 0 → ⊥
-no_empty_piece bs d r at place =
-    let none : at.front ≡ [] = append_cancel_right at.front [] r (at.spells ∙ place.1) in
-    no_literal d (subst (λ (t : List ℕ). IsLiteral t d) none at.literal)
+no_empty_piece bs d r at place = no_literal d (rw (append_cancel_right at.front [] r (at.spells ∙ place.1)) at at.literal)
 
 -- a text that ends with a period, in bytes and in characters
 pub period_bytes : (bs front : List ℕ) → IsUtf8 bs → front ++ 46 ∷ [] ≡ chars bs → encode_utf8_all front ++ 46 ∷ [] ≡ bs
@@ -111,3 +107,7 @@ meant_next bs start n d u before after left is literal =
     next : (r : List ℕ) → IsMeant (chars bs) (front ++ take 1 r)
     next [] = subst (λ (l : List ℕ). IsMeant (chars bs) l) (sym (append-nil front)) is
     next (c ∷ r) = meant_longer (chars bs) front c d is literal
+
+-- a text is left after a place before its end
+pub bytes_left : (bs : List ℕ) (n : ℕ) → IsUtf8 bs → IsCharBoundary bs n → nat_eq n (length bs) ≡ false → is_empty (chars (drop n bs)) ≡ false
+bytes_left bs n u at less = grind (arith, nat_tests, chars_empty (drop n bs) (IsUtf8-drop bs n u at), length-drop n bs)

@@ -1,5 +1,5 @@
 -- Names at the front of a text: their ASCII characters are passed by their bytes.
-use Rattle.litrs_prefix.proofs.Words.{◌≡◌, ℕ, Bool, true, false, List, [], ◌∷◌, ◌++◌, length, drop, refl, sym, ap, subst, ◌∙◌, arith, if◌then◌else◌, nat_le, list_all, prefix_len, chars, IsUtf8, IsCharBoundary, is_xid_continue, begins_with, first_passes, bool_text, is_bool, after_run, after_name, first_name, ltb, true≢false, false_from_ne_true, nat_tests, IsCharBoundary-from_drop, chars-nil, is_xid_continue-ascii, begins_with-split, begins_with-append, OnlyAscii, chars_ascii, begins_with-chars, begins_front, prefix_len-chars, first_passes-rest, some_bool, is_word, words_are_ascii}
+use Rattle.litrs_prefix.proofs.Words.{◌≡◌, ℕ, Bool, true, false, List, [], ◌∷◌, ◌++◌, length, drop, refl, sym, ap, ◌∙◌, arith, if◌then◌else◌, nat_le, list_all, prefix_len, chars, IsUtf8, IsCharBoundary, is_xid_continue, begins_with, first_passes, bool_text, is_bool, after_run, after_name, first_name, ltb, true≢false, false_from_ne_true, nat_tests, IsCharBoundary-from_drop, chars-nil, is_xid_continue-ascii, begins_with-split, begins_with-append, OnlyAscii, chars_ascii, begins_with-chars, begins_front, prefix_len-chars, first_passes-rest, some_bool, is_word, words_are_ascii}
 use Rattle.litrs_base.proofs.Chars.{ascii_from_test, passing_front}
 use Rattle.litrs_prefix.proofs.Names.{name_and_rest}
 
@@ -14,15 +14,14 @@ run_past p goes (c ∷ t) = grind (arith, drop_passed, goes c, run_past p goes t
 pub ascii_front : (p : ℕ → Bool) → OnlyAscii p → (bs : List ℕ) → IsUtf8 bs → IsCharBoundary bs (prefix_len p bs) × (chars (drop (prefix_len p bs) bs) ≡ drop (prefix_len p (chars bs)) (chars bs))
 ascii_front p only bs u =
     let f = passing_front p bs only u in
-    let same : prefix_len p (chars bs) ≡ prefix_len p bs = prefix_len-chars p bs only u in
-    (IsCharBoundary-from_drop bs (prefix_len p bs) f.within f.utf8, sym f.rest ∙ ap (λ (n : ℕ). drop n (chars bs)) (sym same))
+    grind (arith, prefix_len-chars p bs only u, IsCharBoundary-from_drop)
 
 -- the place at which the text is cut after the ASCII characters
 pub name_cut : (bs : List ℕ) (n : ℕ) → IsUtf8 bs → n ≡ prefix_len is_word bs → IsCharBoundary bs n × (after_run (chars (drop n bs)) ≡ after_run (chars bs))
 name_cut bs n u is =
     let cut = ascii_front is_word words_are_ascii bs u in
     let goes = λ (c : ℕ) (h : is_word c ≡ true). is_xid_continue-ascii c (ascii_from_test is_word c words_are_ascii h) ∙ h in
-    subst (λ (k : ℕ). IsCharBoundary bs k × (after_run (chars (drop k bs)) ≡ after_run (chars bs))) (sym is) (cut.0, ap after_run cut.1 ∙ sym (run_past is_word goes (chars bs)))
+    rw is (cut.0, ap after_run cut.1 ∙ sym (run_past is_word goes (chars bs)))
 
 -- no more characters pass before an ASCII character that does not
 ends_at : (bs : List ℕ) → first_passes is_word bs ≡ false → first_passes (nat_le 128) bs ≡ false → after_run (chars bs) ≡ chars bs
@@ -30,9 +29,7 @@ ends_at [] a b = ap after_run chars-nil ∙ sym chars-nil
 ends_at (c ∷ bs) a b = grind (arith, nat_tests, chars_ascii, is_xid_continue-ascii)
 
 pub name_ends : (bs rest : List ℕ) (n : ℕ) → IsUtf8 bs → n ≡ prefix_len is_word bs → rest ≡ drop n bs → first_passes (nat_le 128) rest ≡ false → chars rest ≡ after_run (chars bs)
-name_ends bs rest n u is back narrow =
-    let stops : first_passes is_word rest ≡ false = ap (first_passes is_word) (back ∙ ap (λ (k : ℕ). drop k bs) is) ∙ first_passes-rest is_word bs in
-    sym (ends_at rest stops narrow) ∙ (ap (λ (l : List ℕ). after_run (chars l)) back ∙ (name_cut bs n u is).1)
+name_ends bs rest n u is back narrow = grind (arith, ends_at rest, first_passes-rest is_word bs, name_cut bs n u is)
 
 -- bools, by their first bytes
 
@@ -43,9 +40,8 @@ bool_low b = grind arith
 pub front_cut : (word bs : List ℕ) (n : ℕ) → list_all (λ c. ltb c 128) word ≡ true → IsUtf8 bs → begins_with word bs ≡ true → n ≡ length word → IsCharBoundary bs n × (word ++ chars (drop n bs) ≡ chars bs)
 front_cut word bs n low u begins is =
     let f = begins_front word bs low begins u in
-    let spells : word ++ chars (drop (length word) bs) ≡ chars bs =
-    ap (λ (l : List ℕ). word ++ l) (sym f.rest) ∙ begins_with-split word (chars bs) (begins_with-chars word bs low u ∙ begins) in
-    subst (λ (k : ℕ). IsCharBoundary bs k × (word ++ chars (drop k bs) ≡ chars bs)) (sym is) (IsCharBoundary-from_drop bs (length word) f.within f.utf8, spells)
+    let split = begins_with-split word (chars bs) (begins_with-chars word bs low u ∙ begins) in
+    grind (arith, IsCharBoundary-from_drop bs (length word) f.within f.utf8)
 
 pub bool_front : (bs : List ℕ) (b : Bool) (n : ℕ) → IsUtf8 bs → begins_with (bool_text b) bs ≡ true → n ≡ length (bool_text b) → IsCharBoundary bs n × (bool_text b ++ chars (drop n bs) ≡ chars bs)
 bool_front bs b n = front_cut (bool_text b) bs n (bool_low b)

@@ -1,5 +1,5 @@
 -- The text after the first character of the rest is an end of the text.
-use Rattle.litrs_prefix.proofs.Words.{◌≡◌, ℕ, List, [], drop, ap, sym, ◌∙◌, arith, chars, IsEndOf, after_first, after_bytes, end_at, end_boundary}
+use Rattle.litrs_prefix.proofs.Words.{refl, ap, arith, chars, IsEndOf, after_first, after_bytes, end_at, end_boundary}
 use Rattle.litrs_prefix.proofs.Pieces.{no_bytes}
 use Rattle.litrs_prefix.proofs.next_boundary.Goals as goal
 
@@ -18,10 +18,7 @@ returns-in-None-clause-longer c = λ less.
 pub returns-in-Some-clause-rest : goal.returns-in-Some-clause-rest
 returns-in-Some-clause-rest c =
     let end = after_is c in
-    ap chars (end_at c.args.text.now end.0 c.in-Some.after.now c.in-Some.ensures.rest end.1).1
-    ∙ (ap (drop 1) (sym c.in-Some.ensures.parts) ∙ ap (λ (l : List ℕ). drop 1 (chars l)) c.range_from.ensures.value)
+    rw (← c.range_from.ensures.value, c.in-Some.ensures.parts) (ap chars (end_at c.args.text.now end.0 c.in-Some.after.now c.in-Some.ensures.rest end.1).1)
 
 pub returns-in-None-clause-rest : goal.returns-in-None-clause-rest
-returns-in-None-clause-rest c =
-    let none : chars (drop c.args.start c.args.text.now) ≡ [] = ap chars (sym c.range_from.ensures.value) ∙ c.in-None.ensures.empty in
-    none ∙ ap (drop 1) (sym none)
+returns-in-None-clause-rest c = rw (← c.range_from.ensures.value, c.in-None.ensures.empty) refl

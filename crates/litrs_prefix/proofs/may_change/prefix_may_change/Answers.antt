@@ -1,6 +1,7 @@
 -- The kind of text that begins at the front decides.
-use Rattle.litrs_prefix.proofs.Words.{◌≡◌, drop, length, false, sym, ap, ◌∙◌, arith, chars, eqb-true, eq-eqb, ne_eqb, true≢false, drop_all, length-drop, chars-nil, chars_empty, IsUtf8-drop, is_empty}
+use Rattle.litrs_prefix.proofs.Words.{length, false, sym, ap, ◌∙◌, arith, chars, eqb-true, true≢false, drop_all, chars-nil, is_empty}
 use Rattle.litrs_prefix.proofs.MayChange.{none_stays, none_changes, literal_stays, literal_changes, malformed_stays, malformed_completes, malformed_reaches_end, malformed_line_feed, begins_later, front_later, opens_never}
+use Rattle.litrs_prefix.proofs.Pieces.{bytes_left}
 use Rattle.litrs_prefix.proofs.may_change.prefix_may_change.Goals as goal
 
 pub returns-then-goes_on-clause-changes : goal.returns-then-goes_on-clause-changes
@@ -19,12 +20,9 @@ returns-else-goes_on-clause-changes c = λ front.
 
 pub returns-in-Some-clause-stays : goal.returns-in-Some-clause-stays
 returns-in-Some-clause-stays c = λ less.
-    let text = c.args.text.now in
-    let n = c.in-Some.len in
-    let at = c.in-Some.ensures.boundary in
-    let some : is_empty (chars (drop n text)) ≡ false = chars_empty (drop n text) (IsUtf8-drop text n c.utf8.text at)
-    ∙ ne_eqb (length (drop n text)) 0 (λ none. true≢false (sym (eq-eqb n (length text) (omega (arith, length-drop n text, at))) ∙ less)) in
-    let is = c.in-Some.ensures.literal in literal_stays (chars text) is.0 _ some is.1
+    let at = c.in-Some.ensures in
+    let some = bytes_left c.args.text.now c.in-Some.len c.utf8.text at.boundary less in
+    literal_stays (chars c.args.text.now) at.literal.0 _ some at.literal.1
 
 pub returns-in-Some-clause-changes : goal.returns-in-Some-clause-changes
 returns-in-Some-clause-changes c = λ all.

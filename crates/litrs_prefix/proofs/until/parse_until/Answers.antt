@@ -1,7 +1,8 @@
 -- The text before the delimiter is a front of what follows `start`.
-use Rattle.litrs_prefix.proofs.Words.{List, ℕ, drop, sym, ap, subst, ◌∙◌, arith, chars, byte_len, byte_len-all, literal_parse, after_literal, before_delimiter, IsRefusedOrOutOfMemory, after_bytes, end_of_end}
+use Rattle.litrs_prefix.proofs.Words.{length, List, ℕ, drop, sym, ap, subst, ◌∙◌, arith, chars, byte_len, byte_len-all, literal_parse, after_literal, before_delimiter, IsRefusedOrOutOfMemory, after_bytes, end_of_end}
 use Rattle.litrs.proofs.MovedRefusals.{error_moves}
-use Rattle.litrs_prefix.proofs.Delimiters.{starts_with_delimiter, before_front, refused_marks}
+use Rattle.litrs_prefix.proofs.Delimiters.{starts_with_delimiter, before_front}
+use Rattle.litrs_prefix.proofs.Marks.{front_marks}
 use Rattle.litrs_prefix.proofs.until.parse_until.Goals as goal
 
 pub returns-in-Ok-clause-delimiter : goal.returns-in-Ok-clause-delimiter
@@ -33,4 +34,5 @@ returns-in-Err-clause-refused c =
 pub returns-in-Err-clause-marks : goal.returns-in-Err-clause-marks
 returns-in-Err-clause-marks c =
     let more = before_front (chars c.args.delimiters.now) (chars (drop c.args.start c.args.source.now)) in
-    refused_marks c.args.source.now _ more.0 c.args.start _ c.utf8.source c.requires more.1 (returns-in-Err-clause-refused c)
+    let at = returns-in-Err-clause-refused c in
+    front_marks c.args.source.now _ more.0 c.args.start (record { error = c.offset_span.result; len = length c.split_at_delimiter.result.0.now }) at.of_text c.utf8.source c.requires more.1 (sym at.len) at.char_span at.refused
