@@ -55,9 +55,6 @@ pub moved_marks : (bs : List ℕ) (start : ℕ) (e f : MalformedPrefix) → IsUt
 moved_marks bs start e f utf8 bound (inl is) len same = front_marks bs is.front is.rest start e f.error utf8 bound is.spells (is.len ∙ sym len) same (inl is.refused)
 moved_marks bs start e f utf8 bound (inr is) len same = front_marks bs is.front is.rest start e f.error utf8 bound is.spells (is.len ∙ sym len) same (inr is.refused)
 
-not_moved : (o : Option (Range ℕ)) → o ≡ shifted_span 0 o
-not_moved o = grind arith
-
 -- the error of the text
 pub malformed_marks : (bs : List ℕ) (e : MalformedPrefix) → IsUtf8 bs → IsMalformedOrOutOfMemory (chars bs) e → IsMarkedAt 0 bs e
-malformed_marks bs e utf8 is = moved_marks bs 0 e e utf8 (IsCharBoundary-start bs utf8) is refl (not_moved (char_span_of e.error))
+malformed_marks bs e utf8 is = moved_marks bs 0 e e utf8 (IsCharBoundary-start bs utf8) is refl (grind arith)

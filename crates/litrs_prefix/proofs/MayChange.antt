@@ -1,11 +1,11 @@
 -- Answers that more text changes, and those that stay.
-use Rattle.litrs_prefix.proofs.Words.{◌≡◌, MalformedPrefix, IsMalformed, ◌⊎◌, inl, inr, eqb, ltb, ℕ, Bool, true, false, ◌||◌, List, [], ◌∷◌, ◌++◌, length, length-append, refl, sym, ap, ◌∙◌, append_assoc, append-nil, arith, codes, list_all, chars, IsUtf8, first_passes, is_empty, bool_text, is_bool, Derivation, a_bool, literal_parse, is_quote, PrefixGoesOn, MalformedStay, AnswerStays, AnswerChanges, OpensNever, OpensLater, is_open_prefix, is_open_front, is_quoted_line_feed, after_opened, first_name, after_name, after_hashes, begins_lifetime, opens_raw, opens_bytes, opens_c_string, opens, may_follow, HasPrefix, HasNoPrefix, pointwise, is_scalar, IsText, is_text, Begins, first_run, and_left, cases_Bool, true≢false, false≢true, false_from_ne_true, nat_tests, append_cancel_left, is_xid_start-ascii, some_bool}
+use Rattle.litrs_prefix.proofs.Words.{◌≡◌, is_xid_continue-ascii, ◌⊎◌, inl, inr, eqb, ltb, ℕ, true, false, ◌||◌, List, [], ◌∷◌, ◌++◌, length, length-append, refl, sym, ap, ◌∙◌, append_assoc, append-nil, arith, codes, list_all, chars, IsUtf8, first_passes, is_empty, bool_text, is_bool, Derivation, a_bool, literal_parse, is_quote, PrefixGoesOn, MalformedStay, AnswerStays, AnswerChanges, OpensNever, OpensLater, is_open_prefix, is_open_front, is_quoted_line_feed, after_opened, first_name, after_name, after_hashes, begins_lifetime, opens_raw, opens_bytes, opens_c_string, opens, may_follow, HasPrefix, HasNoPrefix, pointwise, IsText, is_text, Begins, first_run, and_left, cases_Bool, true≢false, false≢true, false_from_ne_true, nat_tests, append_cancel_left, is_xid_start-ascii, some_bool}
 use Rattle.litrs_base.proofs.Chars.{is_text-chars}
 use Rattle.std.proofs.lemmas.Bool.{or_cases, or_parts}
 use Rattle.litrs_grammar.proofs.Laws.Float.{empty-true}
 use Rattle.litrs_grammar.proofs.Laws.Literal.{is_text-is}
 use Rattle.litrs_prefix.specs.MayChange.{Answer, none, literal, malformed, IsMalformedFront, IsAnswer}
-use Rattle.litrs_prefix.proofs.Names.{quote_stops, Opening, opening}
+use Rattle.litrs_prefix.proofs.Names.{Opening, opening}
 use Rattle.litrs_prefix.proofs.Names.Opening.{digit, double, single, raw, bytes, c_string, word_true, word_false}
 use Rattle.litrs_prefix.proofs.LongerTexts.{whole, stays}
 use Rattle.litrs_prefix.proofs.Opened.{opened}
@@ -59,27 +59,20 @@ malformed_line_feed t h absent is = malformed_changes t 39 [] h absent refl (eli
   | inr byte ↦ ap (λ (l : List ℕ). after_opened (l ++ 39 ∷ [])) (sym (is_text-is (codes "b'\n") t byte))
 ])
 
-malformed_longer : (t m front : List ℕ) → opens (t ++ m) ≡ true → after_opened (t ++ m) ≡ after_opened t ++ m → HasNoPrefix (t ++ m) →
-    IsMalformedFront t front → IsMalformedFront (t ++ m) front
-malformed_longer t m front h left absent is = grind (arith, append_assoc)
-
 pub malformed_stays : (t : List ℕ) → opens t ≡ true → HasNoPrefix t → (PrefixGoesOn t → ⊥) → is_empty (after_opened t) ≡ false → is_quoted_line_feed t ≡ false → AnswerStays t
 malformed_stays t h absent ends some other none m text is = absurd (true≢false (sym h ∙ is))
 malformed_stays t h absent ends some other (literal d front) m text is = absurd (absent d is.0 is.2)
 malformed_stays t h absent ends some other (malformed front) m text is =
     let longer = opened_stays t m h other some in
-    malformed_longer t m front longer.0 longer.1 never is
+    grind (arith, append_assoc, never)
   where
     never : HasNoPrefix (t ++ m)
     never d rest found = ends (goes_on_with t m d rest (λ s. absent s.0 (s.1 ∷ s.2) s.3) text found)
 
-front_of_malformed : (t : List ℕ) (e : MalformedPrefix) (is : IsMalformed t e) → IsMalformedFront t is.front
-front_of_malformed t e is = grind arith
-
 -- its length and its error
 pub malformed_stay : MalformedStay
 malformed_stay t more e stay text is =
-    malformed_of (t ++ more) is.front e (stay (malformed is.front) more text (front_of_malformed t e is)) is.len is.some is.refused
+    malformed_of (t ++ more) is.front e (stay (malformed is.front) more text (grind arith)) is.len is.some is.refused
 
 -- a literal
 
@@ -87,11 +80,9 @@ pub literal_stays : (t : List ℕ) (d : Derivation) (rest : List ℕ) → is_emp
 literal_stays t d [] some at answer m text is = absurd (true≢false some)
 literal_stays t d (c ∷ rest) some at none m text is = absurd (true≢false (sym (opened t d (c ∷ rest) at) ∙ is))
 literal_stays t d (c ∷ rest) some at (literal e front) m text is =
-    let same = unique t e d is.0 (c ∷ rest) is.2 at in (
-      is.0 ++ m,
-      sym (append_assoc front is.0 m) ∙ ap (λ (l : List ℕ). l ++ m) is.1,
-      rw same.1 (stays t e c rest m (rw same.1 at is.2)),
-    )
+    let same = unique t e d is.0 (c ∷ rest) is.2 at in
+    let longer = stays t e c rest m (rw same.1 at is.2) in
+    (is.0 ++ m, rw (← append_assoc front is.0 m, is.1) refl, rw same.1 longer)
 literal_stays t d (c ∷ rest) some at (malformed front) m text is = absurd (is.none d (c ∷ rest) at)
 
 -- no literal ends before a letter
@@ -137,7 +128,7 @@ hashes_to (c ∷ t) m h = grind (arith, hashes_to t m)
 -- a `'` after the name makes it a char
 quoted_name : (t : List ℕ) → is_empty (after_name t) ≡ true → begins_lifetime (t ++ 39 ∷ []) ≡ false
 quoted_name [] h = and_left _ _ (is_xid_start-ascii 39 (omega arith))
-quoted_name (c ∷ t) h = grind (arith, run_whole t (39 ∷ []), quote_stops)
+quoted_name (c ∷ t) h = grind (arith, run_whole t (39 ∷ []), is_xid_continue-ascii)
 
 raw_later : (t : List ℕ) → is_empty (after_hashes t) ≡ true → opens_raw (t ++ 34 ∷ []) ≡ true
 raw_later t h = ap (first_passes is_quote) (hashes_to t (34 ∷ []) h)
@@ -158,13 +149,10 @@ front_later (c ∷ t) h = elim (quotes_open c t h) [
 name_whole : (c : ℕ) (t m : List ℕ) → is_empty (after_name (c ∷ t)) ≡ true → first_name (c ∷ (t ++ m)) ≡ c ∷ (t ++ first_run m)
 name_whole c t m h = grind (arith, run_whole t m)
 
-bool_is_text : (b : Bool) → list_all is_scalar (bool_text b) ≡ true
-bool_is_text b = grind arith
-
 begins_bool : (t z : List ℕ) → is_bool (t ++ z) ≡ true → Begins literal_parse t
 begins_bool t z h =
     let bool = some_bool (t ++ z) h in
-    (z, a_bool bool.0, (text_parts t z (rw (← bool.1) (bool_is_text bool.0))).1, bool.1)
+    (z, a_bool bool.0, (text_parts t z (rw (← bool.1) (grind arith))).1, bool.1)
 
 bytes_opened : (t m : List ℕ) → is_open_prefix t ≡ false → opens_bytes (t ++ m) ≡ true → opens_bytes t ≡ true
 bytes_opened t m h g = grind (arith, raw_stays)

@@ -15,24 +15,21 @@ by_more d x m more h g = absurd (true≢false (sym h ∙ g))
 
 -- a longer text with a literal at its front
 pub goes_on_either : (t : List ℕ) → PrefixGoesOn t → Begins literal_parse t ⊎ IsIntegerAndPeriod t
-goes_on_either t h = elim (front_of at.front t h.rest h.more at.spells) [
+goes_on_either t h = elim (front_of h.found.front t h.rest h.more h.found.spells) [
   | inl (m, is) ↦ (
-      let left = append_cancel_left t (m ++ h.rest) h.more (sym (append_assoc t m h.rest) ∙ (ap (λ (l : List ℕ). l ++ h.rest) (sym is) ∙ at.spells)) in
-      inl (m, h.literal, (text_parts m h.rest (rw left h.is_text)).0, rw is at at.literal))
+      let left = append_cancel_left t (m ++ h.rest) h.more (sym (append_assoc t m h.rest) ∙ (ap (λ (l : List ℕ). l ++ h.rest) (sym is) ∙ h.found.spells)) in
+      inl (m, h.literal, (text_parts m h.rest (rw left h.is_text)).0, rw is at h.found.literal))
   | inr (x, m, is) ↦ (
-      let left = append_cancel_left at.front h.rest (x ∷ (m ++ h.more)) (at.spells ∙ (ap (λ (l : List ℕ). l ++ h.more) is ∙ append_assoc at.front (x ∷ m) h.more)) in
+      let left = append_cancel_left h.found.front h.rest (x ∷ (m ++ h.more)) (h.found.spells ∙ (ap (λ (l : List ℕ). l ++ h.more) is ∙ append_assoc h.found.front (x ∷ m) h.more)) in
       go x m is left (may_follow h.literal (x ∷ m)) refl)
 ]
   where
-    at : HasPrefix (t ++ h.more) h.literal h.rest
-    at = h.found
-
-    go : (x : ℕ) (m : List ℕ) → t ≡ at.front ++ x ∷ m → h.rest ≡ x ∷ (m ++ h.more) → (v : Bool) → may_follow h.literal (x ∷ m) ≡ v → Begins literal_parse t ⊎ IsIntegerAndPeriod t
-    go x m is after true v = absurd (h.unsettled (h.literal, x, m, record { front = at.front; spells = sym is; literal = at.literal; follows = v }))
+    go : (x : ℕ) (m : List ℕ) → t ≡ h.found.front ++ x ∷ m → h.rest ≡ x ∷ (m ++ h.more) → (v : Bool) → may_follow h.literal (x ∷ m) ≡ v → Begins literal_parse t ⊎ IsIntegerAndPeriod t
+    go x m is after true v = absurd (h.unsettled (h.literal, x, m, record { front = h.found.front; spells = sym is; literal = h.found.literal; follows = v }))
     go x m is after false v =
-        let p = by_more h.literal x m h.more (rw after at at.follows) v in
+        let p = by_more h.literal x m h.more (rw after at h.found.follows) v in
         let tail : x ∷ m ≡ 46 ∷ [] = (λ i. p.2 i ∷ p.3 i) in
-        inr (at.front, (p.0, subst (λ (e : Derivation). IsLiteral at.front e) p.1 at.literal, p.4), ap (λ (l : List ℕ). at.front ++ l) (sym tail) ∙ sym is)
+        inr (h.found.front, (p.0, subst (λ (e : Derivation). IsLiteral h.found.front e) p.1 h.found.literal, p.4), ap (λ (l : List ℕ). h.found.front ++ l) (sym tail) ∙ sym is)
 
 period_alone : (d : IntegerParts) → is_empty d.suffix ≡ true → may_follow (an_integer d) (46 ∷ []) ≡ false
 period_alone d none = grind (arith, is_xid_start-ascii)

@@ -1,5 +1,5 @@
 -- Names at the front of a text.
-use Rattle.litrs_prefix.proofs.Words.{◌≡◌, ◌⊎◌, ℕ, Bool, true, false, not, List, [], ◌∷◌, ◌++◌, refl, sym, ap, ◌∙◌, arith, if◌then◌else◌, is_ascii_digit, list_all, is_xid_continue, first_passes, bool_text, is_bool, starts_identifier, first_name, after_run, after_name, begins_lifetime, opens_raw, opens_bytes, opens_c_string, opens, ends_suffix, ends_bool, is_suffix, first_run, false≢true, nat_tests, append_cancel_right, is_xid_start-ascii, is_xid_continue-ascii}
+use Rattle.litrs_prefix.proofs.Words.{◌≡◌, ◌⊎◌, ℕ, Bool, true, false, not, List, [], ◌∷◌, ◌++◌, refl, sym, ap, ◌∙◌, arith, if◌then◌else◌, is_ascii_digit, list_all, is_xid_continue, first_passes, bool_text, is_bool, first_name, after_run, after_name, begins_lifetime, opens_raw, opens_bytes, opens_c_string, opens, ends_suffix, ends_bool, is_suffix, first_run, false≢true, nat_tests, append_cancel_right, is_xid_start-ascii, is_xid_continue-ascii}
 use Rattle.litrs_prefix.specs.Laws.{SuffixesAreUnique}
 
 pub run_and_rest : (t : List ℕ) → first_run t ++ after_run t ≡ t
@@ -38,13 +38,6 @@ bool_after b r h = grind (arith, is_xid_start-ascii, is_xid_continue-ascii)
 -- the name is the bool at the front if no more follows
 pub name_is_bool : (b : Bool) (r : List ℕ) → not (first_passes is_xid_continue r) ≡ is_bool (first_name (bool_text b ++ r))
 name_is_bool b r = grind (arith, is_xid_start-ascii, is_xid_continue-ascii)
-
--- characters that do not continue or begin a name
-pub quote_stops : is_xid_continue 39 ≡ false
-quote_stops = is_xid_continue-ascii 39 (omega arith)
-
-pub backslash_stops : starts_identifier 92 ≡ false
-backslash_stops = is_xid_start-ascii 92 (omega arith)
 
 -- how a literal begins at the front of a text
 pub data Opening : List ℕ → Type 0 where

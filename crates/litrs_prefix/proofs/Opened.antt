@@ -5,7 +5,7 @@ use Rattle.litrs_grammar.proofs.QuotedItems.{escape_second}
 use Rattle.litrs_grammar.proofs.Laws.Float.{starts_digit}
 use Rattle.litrs_base.proofs.Runs.{list_all-append, list_all-weaken}
 use Rattle.litrs_prefix.proofs.Chars.{longer_char, longer_raw, longer}
-use Rattle.litrs_prefix.proofs.Names.{quote_stops, backslash_stops, run_after, name_after, bool_after}
+use Rattle.litrs_prefix.proofs.Names.{run_after, name_after, bool_after}
 use Rattle.litrs_grammar.proofs.RawCuts.{length_before-body}
 use Rattle.litrs_grammar.proofs.SuffixStart.{suffix_continues}
 use Rattle.litrs_prefix.proofs.Meant.{past_quote_is, past_single_quote_is, digits_passed, number_parts}
@@ -20,10 +20,7 @@ open_bool b r h = grind (arith, is_xid_start-ascii, is_xid_continue-ascii)
 
 -- a char is not a lifetime
 no_lifetime : (a : CharItem) (x : List ℕ) → begins_lifetime (char_item_text a ++ 39 ∷ x) ≡ false
-no_lifetime a x = grind (arith, quote_stops, backslash_stops)
-
-open_char : (u : List ℕ) → begins_lifetime u ≡ false → opens (39 ∷ u) ≡ true
-open_char u h = rw h refl
+no_lifetime a x = grind (arith, is_xid_start-ascii, is_xid_continue-ascii)
 
 pub after_all : (n : ℕ) (y : List ℕ) → after_hashes (hashes n ++ 34 ∷ y) ≡ 34 ∷ y
 after_all zero y = refl
@@ -46,7 +43,7 @@ literal_opens s r (a_bool b) h f = ap (λ (l : List ℕ). opens (l ++ r)) (sym h
 literal_opens s r (an_integer d) h f = open_digit (s ++ r) (first_passes-append is_ascii_digit s r (starts_with_digit s d h))
 literal_opens s r (a_float d) h f =
     open_digit (s ++ r) (first_passes-append is_ascii_digit s r (ap (first_passes is_ascii_digit) (sym h.spells) ∙ (starts_digit d.integer _ h.grammar.integer).1))
-literal_opens s r (a_char d) h f = ap opens (longer_char char_kind s r d h) ∙ open_char (char_item_text d.item ++ 39 ∷ (d.suffix ++ r)) (no_lifetime d.item (d.suffix ++ r))
+literal_opens s r (a_char d) h f = rw (longer_char char_kind s r d h, no_lifetime d.item (d.suffix ++ r)) refl
 literal_opens s r (a_byte d) h f = ap (λ (l : List ℕ). opens (l ++ r)) (sym h.spells)
 literal_opens s r (a_string d) h f = string_opens string_kind s r d h
 literal_opens s r (a_byte_string d) h f = string_opens byte_string_kind s r d h
@@ -110,7 +107,7 @@ line_second : (c : ℕ) (t : List ℕ) → (c == 10) ≡ false → past_single_q
 line_second c t h = grind arith
 
 escape_closed : (w : Switches) (e : Escape) (x : List ℕ) → is_escape w e ≡ true → past_single_quote false (escape_text e ++ 39 ∷ x) ≡ x
-escape_closed w (simple_escape c) x h = line_second c (39 ∷ x) (escape_second w (simple_escape c) [] c [] h refl)
+escape_closed w (simple_escape c) x h = grind (arith, escape_second w (simple_escape c) [] c [] h refl)
 escape_closed w (hex_escape a b) x h = line_passed (a ∷ b ∷ []) (39 ∷ x) (hex_digits w a b h)
 escape_closed w (unicode_escape u) x h = ap (past_single_quote false) (append_assoc u (125 ∷ []) (39 ∷ x)) ∙ line_passed u (125 ∷ 39 ∷ x) (unicode_digits w u h)
 

@@ -1,5 +1,5 @@
 -- A piece at the front of a text that is refused.
-use Rattle.litrs_prefix.proofs.Words.{◌≡◌, nat_eq, false, is_empty, nat_tests, chars_empty, IsUtf8-drop, length-drop, IsIntegerAndPeriod, IsBareInteger, ◌↔◌, encode_utf8_all, ◌⊎◌, ℕ, ◌+◌, ◌<◌, ◌^◌, List, ◌++◌, length, take, drop, None, sym, ap, subst, inl, inr, ◌∙◌, append_assoc, append-nil, length-take, [], ◌∷◌, ◌-◌, refl, arith, chars, IsUtf8, IsCharBoundary, byte_len, Derivation, IsLiteral, literal_parse, IsLiteralLen, IsMalformedLen, IsMalformedOrOutOfMemory, IsMeant, HasPrefix, ParseError, HasNoDerivation, IsRefused, IsRefusedOrOutOfMemory, Refusal, span_of, MovesWithin, MalformedPrefix, EndsBefore, IsMalformed, chars-append, encodes-chars, IsUtf8-take, take-append-drop, append_cancel_right, literals_are_unique, cut_at}
+use Rattle.litrs_prefix.proofs.Words.{◌≡◌, nat_eq, false, is_empty, nat_tests, chars_empty, IsUtf8-drop, length-drop, IsIntegerAndPeriod, IsBareInteger, ◌↔◌, encode_utf8_all, ◌⊎◌, ℕ, ◌+◌, ◌<◌, ◌^◌, List, ◌++◌, length, take, drop, None, sym, ap, subst, inl, inr, ◌∙◌, append_assoc, append-nil, length-take, [], ◌∷◌, ◌-◌, refl, arith, chars, IsUtf8, IsCharBoundary, byte_len, Derivation, IsLiteral, literal_parse, IsLiteralLen, IsMalformedLen, IsMalformedOrOutOfMemory, IsMeant, HasPrefix, ParseError, IsRefused, IsRefusedOrOutOfMemory, Refusal, span_of, MovesWithin, MalformedPrefix, EndsBefore, IsMalformed, chars-append, encodes-chars, IsUtf8-take, take-append-drop, append_cancel_right, literals_are_unique, cut_at}
 use Rattle.std.proofs.lemmas.Str.{chars-IsAscii, encodes-append, encodes-IsAscii}
 use Rattle.litrs_base.proofs.Chars.{ascii_by_test}
 use Rattle.litrs.proofs.MovedRefusals.{refusal_moves}
@@ -20,11 +20,6 @@ piece_is bs front n d r u before place at = grind (arith, front_is)
 piece_len : (bs front : List ℕ) (n : ℕ) → IsUtf8 bs → IsCharBoundary bs n → front ≡ take n bs → length front ≡ n → byte_len (chars front) ≡ n
 piece_len bs front n u bound before size =
     ap length (encodes-chars front (subst (λ (l : List ℕ). IsUtf8 l) (sym before) (IsUtf8-take bs n u bound))) ∙ size
-
--- the error of a piece that is not a literal
-refused_at : (front : List ℕ) (e : ParseError) → IsRefusedOrOutOfMemory literal_parse front e → HasNoDerivation (IsLiteral front) → IsRefused literal_parse front e
-refused_at front e (inl is) none = is
-refused_at front e (inr is) none = absurd (none is.derivation is.literal)
 
 -- the literal that is the front
 pub front_found : (bs front rest : List ℕ) (n : ℕ) (x : Derivation) → IsUtf8 bs → front ≡ take n bs → rest ≡ drop n bs → IsLiteralLen bs n ⊎ IsMalformedLen bs n → IsLiteral (chars front) x →
@@ -51,9 +46,10 @@ front_refused bs front rest n e u before after size (inl is) (inr memory) = inr 
   refused = memory;
   prefix = front_found bs front rest n memory.derivation u before after (inl is) memory.literal;
 })
-front_refused bs front rest n e u before after size (inr is) refused =
+front_refused bs front rest n e u before after size (inr is) (inr memory) = absurd (is.front.invalid memory.derivation (rw before at memory.literal))
+front_refused bs front rest n e u before after size (inr is) (inl refused) =
     let malformed : IsMalformedFront (chars bs) (chars front) = rw before is.front in
-    inl (malformed_of (chars bs) (chars front) _ malformed (piece_len bs front n u is.boundary before size) is.some (refused_at (chars front) e refused malformed.invalid))
+    inl (malformed_of (chars bs) (chars front) _ malformed (piece_len bs front n u is.boundary before size) is.some refused)
 
 -- the offset by which the spans of an error are moved fits, if it is within the source text
 pub malformed_moves : (bs : List ℕ) (e : MalformedPrefix) (offset : ℕ) → IsUtf8 bs → offset + length bs < 2 ^ 64 → IsMalformedOrOutOfMemory (chars bs) e → MovesWithin offset e.error
@@ -80,9 +76,9 @@ pub period_after : (bs front : List ℕ) (n : ℕ) → IsUtf8 bs → front ≡ t
     IsIntegerAndPeriod (chars bs) ↔ IsBareInteger (chars front)
 period_after bs front n u before one is bound =
     let text : IsUtf8 front = rw (before, one) (IsUtf8-take bs (length bs - 1) u bound) in
-    let spells : chars (front ++ 46 ∷ []) ≡ chars bs = ap chars (rw (← before) at (sym is)) in
-    let is = rw (chars-append front (46 ∷ []) text, chars-IsAscii (46 ∷ []) (ascii_by_test (46 ∷ []) refl)) at spells in
-    (λ integer. subst IsBareInteger (append_cancel_right integer.0 (chars front) (46 ∷ []) (integer.2 ∙ sym is)) integer.1, λ bare. (chars front, bare, is))
+    let low = chars-IsAscii (46 ∷ []) (ascii_by_test (46 ∷ []) refl) in
+    let spells : chars front ++ 46 ∷ [] ≡ chars bs = cc (chars-append front (46 ∷ []) text) in
+    (λ integer. subst IsBareInteger (append_cancel_right integer.0 (chars front) (46 ∷ []) (integer.2 ∙ sym spells)) integer.1, λ bare. (chars front, bare, spells))
 
 -- a text without characters has no bytes
 pub no_bytes : (bs : List ℕ) → IsUtf8 bs → chars bs ≡ [] → length bs ≡ 0

@@ -20,10 +20,8 @@ number_kind v d h = grind arith
 pub number_of : (s r : List ℕ) (d : Derivation) → IsLiteral s d → first_passes is_ascii_digit (s ++ r) ≡ true → IsNumber d
 unfolding dispatch
 number_of [] r d h digit = absurd (no_literal d h)
-number_of (c ∷ s) r d h digit = number_kind (begins_float (c ∷ s)) d (sym (dispatch_literal (c ∷ s) d h) ∙ row)
-  where
-    row : dispatch (c ∷ s) ≡ (if begins_float (c ∷ s) then parsed_as float_literal else parsed_as integer_literal)
-    row = rw (is_bool-digit (c ∷ s) digit, digit) refl
+number_of (c ∷ s) r d h digit =
+    number_kind (begins_float (c ∷ s)) d (sym (dispatch_literal (c ∷ s) d h) ∙ rw (is_bool-digit (c ∷ s) digit, digit) refl)
 
 bool_kind : (v : Bool) (e : Refusal) (d : Derivation) → parsed_as (literal_kind d) ≡ (if v then parsed_as bool_literal else refused_as e) → (b : Bool) × (d ≡ a_bool b)
 bool_kind v e d h = grind arith
