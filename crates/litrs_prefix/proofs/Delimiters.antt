@@ -1,6 +1,5 @@
 -- The text before a delimiter is a front of the text.
-use Rattle.litrs_prefix.proofs.Words.{◌≡◌, subst, cases_Bool, inl, inr, ℕ, ◌-◌, ◌&&◌, List, [], ◌∷◌, ◌++◌, length, take, refl, sym, ap, ◌∙◌, append_assoc, length-append, arith, ◌==◌, if◌then◌else◌, chars, IsUtf8, drop_trailing_whitespace, IsEndOf, opens, from_first, after_literal, from_delimiter, before_delimiter, StartsWithDelimiter, is_whitespace}
-use Rattle.std.proofs.Common.{take_at}
+use Rattle.litrs_prefix.proofs.Words.{◌≡◌, take_at, subst, cases_Bool, inl, inr, ℕ, ◌-◌, ◌&&◌, List, [], ◌∷◌, ◌++◌, length, take, refl, sym, ap, ◌∙◌, append_assoc, length-append, arith, ◌==◌, if◌then◌else◌, chars, IsUtf8, drop_trailing_whitespace, IsEndOf, opens, from_first, after_literal, from_delimiter, before_delimiter, StartsWithDelimiter, is_whitespace}
 use Rattle.std.specs.Str.{trim_end}
 use Rattle.std.proofs.lemmas.Str.{chars_from_encodes}
 use Rattle.litrs_prefix.proofs.Ends.{all as whole, bytes_spell, end_of_end}

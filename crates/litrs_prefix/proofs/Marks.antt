@@ -1,7 +1,6 @@
 -- The bytes of the source can be cut at the places that an error at the front of a text marks.
-use Rattle.litrs_prefix.proofs.Words.{◌≡◌, ℕ, ◌+◌, ◌≤◌, List, ◌++◌, length, take, drop, Option, Some, None, IfSome, IsUtf8, inl, inr, refl, sym, ap, ◌∙◌, length-drop, arith, chars, IsCharBoundary, byte_len, literal_parse, IsMalformedOrOutOfMemory, IsMarkedAt, unwrap_or, Refusal, char_span_of, shifted_span, ParseError, IsRefusedOrOutOfMemory, MalformedPrefix, prefix_span, length-take-le, IsUtf8-drop, IsUtf8-take, IsCharBoundary-start, cut_at}
+use Rattle.litrs_prefix.proofs.Words.{◌≡◌, add_comm, ℕ, ◌+◌, ◌≤◌, List, ◌++◌, length, take, drop, Option, Some, None, IfSome, IsUtf8, inl, inr, refl, sym, ap, ◌∙◌, length-drop, arith, chars, IsCharBoundary, byte_len, literal_parse, IsMalformedOrOutOfMemory, IsMarkedAt, unwrap_or, Refusal, char_span_of, shifted_span, ParseError, IsRefusedOrOutOfMemory, MalformedPrefix, prefix_span, length-take-le, IsUtf8-drop, IsUtf8-take, IsCharBoundary-start, cut_at}
 use Rattle.std.specs.declared.ops.Range.{Range}
-use Rattle.std.proofs.Common.{add_comm}
 use Rattle.std.proofs.lemmas.List.{get_or-take}
 use Rattle.std.proofs.lemmas.Str.{IsCharBoundary-from_rest}
 use Rattle.litrs_base.specs.CharEnd.{PointsAtCharacters, IsCutBy}
@@ -26,10 +25,9 @@ span_cut bs front rest start piece (Some span) p utf8 bound spells whole same al
     let text : List ℕ = drop start bs in
     let after = IsUtf8-drop bs start utf8 bound in
     let cut = cut_at text front rest after (sym spells) in
-    let n : ℕ = byte_len front in
-    let is : chars (take n text) ≡ front = front_is text n front rest after cut.boundary cut.rest spells in
-    let inside = points_cut (take n text) span (IsUtf8-take text n after cut.boundary) (rw is all) in
-    rw same (cut_after bs start span bound.0 (cut_in text n span cut.boundary inside))
+    let is = front_is text (byte_len front) front rest after cut.boundary cut.rest spells in
+    let inside = points_cut (take (byte_len front) text) span (IsUtf8-take text (byte_len front) after cut.boundary) (rw is all) in
+    rw same (cut_after bs start span bound.0 (cut_in text (byte_len front) span cut.boundary inside))
 
 piece_cut : (bs front rest : List ℕ) (start : ℕ) (e : MalformedPrefix) → IsUtf8 bs → IsCharBoundary bs start → front ++ rest ≡ chars (drop start bs) → byte_len front ≡ e.len →
     IsCutBy bs (prefix_span start e)

@@ -34,9 +34,7 @@ open_quoted kind u = grind arith
 
 string_opens : (kind : StringKind) (s r : List ℕ) (d : StringParts) → IsString kind s d → opens (s ++ r) ≡ true
 string_opens kind s r (quoted_parts d) h = ap opens (longer (quoted_front kind) (switches_of kind) s r d h) ∙ open_quoted kind _
-string_opens kind s r (raw_parts d) h =
-    let y = d.body ++ (raw_closing d.hash_count ++ (d.suffix ++ r)) in
-    ap opens (longer_raw kind s r d h) ∙ open_raw kind (hashes d.hash_count ++ 34 ∷ y) (ap (first_passes (λ c. c == 34)) (after_all d.hash_count y))
+string_opens kind s r (raw_parts d) h = rw (longer_raw kind s r d h) (open_raw kind _ (ap (first_passes (λ c. c == 34)) (after_all d.hash_count _)))
 
 literal_opens : (s r : List ℕ) (d : Derivation) → IsLiteral s d → may_follow d r ≡ true → opens (s ++ r) ≡ true
 literal_opens s r (a_bool b) h f = ap (λ (l : List ℕ). opens (l ++ r)) (sym h) ∙ open_bool b r f
@@ -70,9 +68,6 @@ run_passed p only (c ∷ a) t h = grind (arith, only c, run_passed p only a t)
 digit_none : (c : ℕ) → is_hex_or_underscore c ≡ true → ((c == 34) ≡ false) × ((c == 92) ≡ false)
 digit_none c h = (grind (arith, nat_tests), grind (arith, nat_tests))
 
-blank_none : (c : ℕ) → is_blank c ≡ true → ((c == 34) ≡ false) × ((c == 92) ≡ false)
-blank_none c h = (grind (arith, nat_tests), grind (arith, nat_tests))
-
 escape_passed : (w : Switches) (e : Escape) (t : List ℕ) → is_escape w e ≡ true → past_quote 34 false (escape_text e ++ t) ≡ past_quote 34 false t
 escape_passed w (simple_escape c) t h = grind arith
 escape_passed w (hex_escape a b) t h = run_passed is_hex_or_underscore digit_none (a ∷ b ∷ []) t (hex_digits w a b h)
@@ -82,7 +77,7 @@ escape_passed w (unicode_escape u) t h =
 pub item_passed : (w : Switches) (a : Item) (t : List ℕ) → is_item w a ≡ true → past_quote 34 false (item_text a ++ t) ≡ past_quote 34 false t
 item_passed w (plain_item c) t h = grind (arith, nat_tests)
 item_passed w (escape_item e) t h = escape_passed w e t h
-item_passed w (continuation blanks) t h = run_passed is_blank blank_none blanks t h
+item_passed w (continuation blanks) t h = run_passed is_blank (λ c b. (grind (arith, nat_tests), grind (arith, nat_tests))) blanks t h
 
 body_passed : (w : Switches) (items : List Item) (x : List ℕ) → is_body w items ≡ true → past_quote 34 false (body_text items ++ 34 ∷ x) ≡ x
 body_passed w [] x h = refl
@@ -103,17 +98,13 @@ line_passed : (a t : List ℕ) → list_all is_hex_or_underscore a ≡ true → 
 line_passed [] t h = refl
 line_passed (c ∷ a) t h = grind (arith, nat_tests, line_passed a t)
 
-line_second : (c : ℕ) (t : List ℕ) → (c == 10) ≡ false → past_single_quote true (c ∷ t) ≡ past_single_quote false t
-line_second c t h = grind arith
-
 escape_closed : (w : Switches) (e : Escape) (x : List ℕ) → is_escape w e ≡ true → past_single_quote false (escape_text e ++ 39 ∷ x) ≡ x
 escape_closed w (simple_escape c) x h = grind (arith, escape_second w (simple_escape c) [] c [] h refl)
 escape_closed w (hex_escape a b) x h = line_passed (a ∷ b ∷ []) (39 ∷ x) (hex_digits w a b h)
 escape_closed w (unicode_escape u) x h = ap (past_single_quote false) (append_assoc u (125 ∷ []) (39 ∷ x)) ∙ line_passed u (125 ∷ 39 ∷ x) (unicode_digits w u h)
 
 after_escape : (e : Escape) (y : List ℕ) → after_char (escape_text e ++ y) ≡ after_single_quote (escape_text e ++ y)
-after_escape (simple_escape c) y = refl
-after_escape e y = refl
+after_escape e y = grind arith
 
 item_closed : (kind : CharKind) (a : CharItem) (x : List ℕ) → is_char_item kind a ≡ true → after_char (char_item_text a ++ 39 ∷ x) ≡ x
 item_closed kind (plain_char c) x h = grind (arith, nat_tests)

@@ -1,5 +1,5 @@
 -- A piece at the front of a text that is refused.
-use Rattle.litrs_prefix.proofs.Words.{◌≡◌, nat_eq, false, is_empty, nat_tests, chars_empty, IsUtf8-drop, length-drop, IsIntegerAndPeriod, IsBareInteger, ◌↔◌, encode_utf8_all, ◌⊎◌, ℕ, ◌+◌, ◌<◌, ◌^◌, List, ◌++◌, length, take, drop, None, sym, ap, subst, inl, inr, ◌∙◌, append_assoc, append-nil, length-take, [], ◌∷◌, ◌-◌, refl, arith, chars, IsUtf8, IsCharBoundary, byte_len, Derivation, IsLiteral, literal_parse, IsLiteralLen, IsMalformedLen, IsMalformedOrOutOfMemory, IsMeant, HasPrefix, ParseError, IsRefused, IsRefusedOrOutOfMemory, Refusal, span_of, MovesWithin, MalformedPrefix, EndsBefore, IsMalformed, chars-append, encodes-chars, IsUtf8-take, take-append-drop, append_cancel_right, literals_are_unique, cut_at}
+use Rattle.litrs_prefix.proofs.Words.{◌≡◌, append_assoc, nat_eq, false, is_empty, nat_tests, chars_empty, IsUtf8-drop, length-drop, IsIntegerAndPeriod, IsBareInteger, ◌↔◌, encode_utf8_all, ◌⊎◌, ℕ, ◌+◌, ◌<◌, ◌^◌, List, ◌++◌, length, take, drop, None, sym, ap, subst, inl, inr, ◌∙◌, length-take, [], ◌∷◌, ◌-◌, refl, arith, chars, IsUtf8, IsCharBoundary, byte_len, Derivation, IsLiteral, literal_parse, IsLiteralLen, IsMalformedLen, IsMalformedOrOutOfMemory, IsMeant, HasPrefix, ParseError, IsRefused, IsRefusedOrOutOfMemory, Refusal, span_of, MovesWithin, MalformedPrefix, EndsBefore, IsMalformed, chars-append, encodes-chars, IsUtf8-take, take-append-drop, append_cancel_right, literals_are_unique, cut_at}
 use Rattle.std.proofs.lemmas.Str.{chars-IsAscii, encodes-append, encodes-IsAscii}
 use Rattle.litrs_base.proofs.Chars.{ascii_by_test}
 use Rattle.litrs.proofs.MovedRefusals.{refusal_moves}
@@ -92,17 +92,14 @@ malformed_boundary bs e u is = subst (λ (n : ℕ). IsCharBoundary bs n) is.len 
 pub meant_next : (bs : List ℕ) (start n : ℕ) (d : Derivation) → IsUtf8 bs → IsCharBoundary bs start → IsCharBoundary bs n → chars (drop n bs) ≡ drop 1 (chars (drop start bs)) →
     IsMeant (chars bs) (chars (take start bs)) → IsLiteral (chars (take start bs)) d → IsMeant (chars bs) (chars (take n bs))
 meant_next bs start n d u before after left is literal =
-    let r : List ℕ = chars (drop start bs) in
-    let old : front ++ r ≡ chars bs = parts_spell bs (take start bs) (drop start bs) start u before refl refl in
-    let new : (front ++ take 1 r) ++ drop 1 r ≡ chars bs = append_assoc front (take 1 r) (drop 1 r) ∙ (ap (λ (l : List ℕ). front ++ l) (take-append-drop 1 r) ∙ old) in
-    subst (λ (l : List ℕ). IsMeant (chars bs) l) (sym (front_is bs n (front ++ take 1 r) (drop 1 r) u after left new)) (next r)
+    go (chars (drop start bs)) left (parts_spell bs (take start bs) (drop start bs) start u before refl refl)
   where
     front : List ℕ
     front = chars (take start bs)
 
-    next : (r : List ℕ) → IsMeant (chars bs) (front ++ take 1 r)
-    next [] = subst (λ (l : List ℕ). IsMeant (chars bs) l) (sym (append-nil front)) is
-    next (c ∷ r) = meant_longer (chars bs) front c d is literal
+    go : (r : List ℕ) → chars (drop n bs) ≡ drop 1 r → front ++ r ≡ chars bs → IsMeant (chars bs) (chars (take n bs))
+    go [] end old = rw (front_is bs n front [] u after end old) is
+    go (c ∷ r) end old = rw (front_is bs n (front ++ c ∷ []) r u after end (append_assoc front (c ∷ []) r ∙ old)) (meant_longer (chars bs) front c d is literal)
 
 -- a text is left after a place before its end
 pub bytes_left : (bs : List ℕ) (n : ℕ) → IsUtf8 bs → IsCharBoundary bs n → nat_eq n (length bs) ≡ false → is_empty (chars (drop n bs)) ≡ false

@@ -61,9 +61,9 @@ bare_same t r u x d e is h g =
 same_rest : (t r u : List ℕ) (d e : Derivation) → HasPrefix t d r → HasPrefix t e u → r ≡ u
 same_rest t r u d e h g = elim (only_rest t d r h) [
   | inr (x, is, bare) ↦ bare_same t r u x d e is h g
-  | inl here ↦ elim (only_rest t e u g) [
-    | inl there ↦ sym here ∙ there
-    | inr (x, is, bare) ↦ sym (bare_same t u r x e d is g h)
+  | inl here ↦ sym here ∙ elim (only_rest t e u g) [
+    | inl there ↦ there
+    | inr (x, is, bare) ↦ here ∙ sym (bare_same t u r x e d is g h)
   ]
 ]
 

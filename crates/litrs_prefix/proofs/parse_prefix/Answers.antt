@@ -1,14 +1,11 @@
 -- The text that is parsed is the literal at the front, valid or malformed.
-use Rattle.litrs_prefix.proofs.Words.{inl, inr, derivation}
+use Rattle.litrs_prefix.proofs.Words.{arith, derivation}
 use Rattle.litrs_prefix.proofs.Marks.{malformed_marks}
 use Rattle.litrs_prefix.proofs.Pieces.{front_found, front_refused}
 use Rattle.litrs_prefix.proofs.parse_prefix.Goals as goal
 
 pub split_at-requires : goal.split_at-requires
-split_at-requires c = elim c.front_len-len.ensures [
-  | inl is ↦ is.boundary
-  | inr is ↦ is.boundary
-]
+split_at-requires c = grind (arith, c.front_len-len.ensures)
 
 pub returns-in-Ok-clause-found : goal.returns-in-Ok-clause-found
 returns-in-Ok-clause-found c =
