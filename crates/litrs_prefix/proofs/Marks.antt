@@ -33,8 +33,7 @@ piece_cut : (bs front rest : List ℕ) (start : ℕ) (e : MalformedPrefix) → I
     IsCutBy bs (prefix_span start e)
 piece_cut bs front rest start e utf8 bound spells len =
     let cut = cut_at (drop start bs) front rest (IsUtf8-drop bs start utf8 bound) (sym spells) in
-    let end = IsCharBoundary-from_rest bs start (byte_len front) bound.0 cut.boundary in
-    grind arith
+    grind (arith, IsCharBoundary-from_rest bs start (byte_len front) bound.0 cut.boundary)
 
 points : (t : List ℕ) (e : ParseError) → IsRefusedOrOutOfMemory literal_parse t e → IfSome (char_span_of e) (PointsAtCharacters t)
 points t e (inl is) = is.char_ends

@@ -1,5 +1,5 @@
 -- Answers that more text changes, and those that stay.
-use Rattle.litrs_prefix.proofs.Words.{◌≡◌, is_xid_continue-ascii, ◌⊎◌, inl, inr, eqb, ltb, ℕ, true, false, ◌||◌, List, [], ◌∷◌, ◌++◌, length, length-append, refl, sym, ap, ◌∙◌, append_assoc, append-nil, arith, codes, list_all, chars, IsUtf8, first_passes, is_empty, bool_text, is_bool, Derivation, a_bool, literal_parse, is_quote, PrefixGoesOn, MalformedStay, AnswerStays, AnswerChanges, OpensNever, OpensLater, is_open_prefix, is_open_front, is_quoted_line_feed, after_opened, first_name, after_name, after_hashes, begins_lifetime, opens_raw, opens_bytes, opens_c_string, opens, may_follow, HasPrefix, HasNoPrefix, pointwise, IsText, is_text, Begins, first_run, and_left, cases_Bool, true≢false, false≢true, false_from_ne_true, nat_tests, append_cancel_left, is_xid_start-ascii, some_bool}
+use Rattle.litrs_prefix.proofs.Words.{◌≡◌, ⊎_elim, is_xid_continue-ascii, ◌⊎◌, inl, inr, eqb, ltb, ℕ, true, false, ◌||◌, List, [], ◌∷◌, ◌++◌, length, length-append, refl, sym, ap, ◌∙◌, append_assoc, append-nil, arith, codes, list_all, chars, IsUtf8, first_passes, is_empty, bool_text, is_bool, Derivation, a_bool, literal_parse, is_quote, PrefixGoesOn, MalformedStay, AnswerStays, AnswerChanges, OpensNever, OpensLater, is_open_prefix, is_open_front, is_quoted_line_feed, after_opened, first_name, after_name, after_hashes, begins_lifetime, opens_raw, opens_bytes, opens_c_string, opens, may_follow, HasPrefix, HasNoPrefix, pointwise, IsText, is_text, Begins, first_run, and_left, cases_Bool, true≢false, false≢true, false_from_ne_true, nat_tests, append_cancel_left, is_xid_start-ascii, some_bool}
 use Rattle.litrs_base.proofs.Chars.{is_text-chars}
 use Rattle.std.proofs.lemmas.Bool.{or_cases, or_parts}
 use Rattle.litrs_grammar.proofs.Laws.Float.{empty-true}
@@ -96,9 +96,9 @@ literal_changes t d at = (120 ∷ [], refl, go)
     go none is longer = true≢false (sym (opened t d [] at) ∙ is)
     go (literal e front) is longer =
         let same = unique t e d is.0 [] is.2 at in
-        let all : front ≡ t = sym (append-nil front) ∙ (ap (λ (l : List ℕ). front ++ l) (sym same.1) ∙ is.1) in
-        let rest : longer.0 ≡ 120 ∷ [] = append_cancel_left t longer.0 (120 ∷ []) (ap (λ (l : List ℕ). l ++ longer.0) (sym all) ∙ longer.1) in
-        true≢false (sym longer.2.follows ∙ (ap (may_follow e) rest ∙ letter_follows_none e))
+        let all : front ≡ t = rw (same.1, append-nil) at is.1 in
+        let rest = append_cancel_left t longer.0 (120 ∷ []) (rw all at longer.1) in
+        true≢false (sym (rw rest at longer.2.follows) ∙ letter_follows_none e)
     go (malformed front) is longer = is.none d [] at
 
 -- no literal begins
@@ -139,10 +139,7 @@ quotes_open c t h = grind (arith, nat_tests, quoted_name t, raw_later)
 
 pub front_later : (t : List ℕ) → is_open_front t ≡ true → OpensLater t
 front_later [] h = absurd (false≢true h)
-front_later (c ∷ t) h = elim (quotes_open c t h) [
-  | inl is ↦ (39 ∷ [], refl, is)
-  | inr is ↦ (34 ∷ [], refl, is)
-]
+front_later (c ∷ t) h = ⊎_elim (λ is. (39 ∷ [], refl, is)) (λ is. (34 ∷ [], refl, is)) (quotes_open c t h)
 
 -- if neither, none begins later
 

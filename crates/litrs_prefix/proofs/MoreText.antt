@@ -56,7 +56,7 @@ pub goes_on_with : (t more : List ℕ) (d : Derivation) (rest : List ℕ) → (I
 goes_on_with t more d rest unsettled text found = grind arith
 
 pub begins_goes_on : (t : List ℕ) → Begins literal_parse t → PrefixGoesOn t
-begins_goes_on t b = goes_on_with t b.0 b.1 [] (begins_unsettled t b) b.2 (whole (t ++ b.0) b.1 b.3)
+begins_goes_on t b = goes_on_with t b.0 b.1 [] (begins_unsettled t b) b.2 (whole _ b.1 b.3)
 
 pub period_goes_on : (t : List ℕ) → IsIntegerAndPeriod t → PrefixGoesOn t
 period_goes_on t p = subst PrefixGoesOn p.2 (goes_on_with _ (46 ∷ []) (an_integer p.1.0) (46 ∷ 46 ∷ [])

@@ -36,11 +36,13 @@ string_opens : (kind : StringKind) (s r : List ℕ) (d : StringParts) → IsStri
 string_opens kind s r (quoted_parts d) h = ap opens (longer (quoted_front kind) (switches_of kind) s r d h) ∙ open_quoted kind _
 string_opens kind s r (raw_parts d) h = rw (longer_raw kind s r d h) (open_raw kind _ (ap (first_passes (λ c. c == 34)) (after_all d.hash_count _)))
 
+float_digit : (s r : List ℕ) (d : FloatParts) → IsFloatOf s d → first_passes is_ascii_digit (s ++ r) ≡ true
+float_digit s r d h = first_passes-append is_ascii_digit s r (rw (← h.spells) (starts_digit d.integer _ h.grammar.integer).1)
+
 literal_opens : (s r : List ℕ) (d : Derivation) → IsLiteral s d → may_follow d r ≡ true → opens (s ++ r) ≡ true
 literal_opens s r (a_bool b) h f = ap (λ (l : List ℕ). opens (l ++ r)) (sym h) ∙ open_bool b r f
 literal_opens s r (an_integer d) h f = open_digit (s ++ r) (first_passes-append is_ascii_digit s r (starts_with_digit s d h))
-literal_opens s r (a_float d) h f =
-    open_digit (s ++ r) (first_passes-append is_ascii_digit s r (ap (first_passes is_ascii_digit) (sym h.spells) ∙ (starts_digit d.integer _ h.grammar.integer).1))
+literal_opens s r (a_float d) h f = open_digit (s ++ r) (float_digit s r d h)
 literal_opens s r (a_char d) h f = rw (longer_char char_kind s r d h, no_lifetime d.item (d.suffix ++ r)) refl
 literal_opens s r (a_byte d) h f = ap (λ (l : List ℕ). opens (l ++ r)) (sym h.spells)
 literal_opens s r (a_string d) h f = string_opens string_kind s r d h
@@ -146,8 +148,7 @@ number_body t h = grind arith
 
 float_rest : (s r : List ℕ) (d : FloatParts) → IsFloatOf s d → ends_suffix d.suffix r ≡ true → ends_float d r ≡ true → after_opened (s ++ r) ≡ r
 float_rest s r d h e f =
-    let digit = first_passes-append is_ascii_digit s r (ap (first_passes is_ascii_digit) (sym h.spells) ∙ (starts_digit d.integer _ h.grammar.integer).1) in
-    rw (number_body (s ++ r) digit, longer_float d s r h, cut_of_text (with_rest d r) (float_cut_stays d s r h e f), after_number) (name_after d.suffix r h.grammar.suffix e)
+    rw (number_body (s ++ r) (float_digit s r d h), longer_float d s r h, cut_of_text (with_rest d r) (float_cut_stays d s r h e f), after_number) (name_after d.suffix r h.grammar.suffix e)
 
 word_continues : (base : IntegerBase) (c : ℕ) → is_digit_or_underscore base c ≡ true → is_xid_continue c ≡ true
 word_continues base c h = let low : c < 128 = grind (arith, nat_tests) in is_xid_continue-ascii c low ∙ grind (arith, nat_tests)

@@ -55,10 +55,9 @@ front_refused bs front rest n e u before after size (inr is) (inl refused) =
 pub malformed_moves : (bs : List ℕ) (e : MalformedPrefix) (offset : ℕ) → IsUtf8 bs → offset + length bs < 2 ^ 64 → IsMalformedOrOutOfMemory (chars bs) e → MovesWithin offset e.error
 malformed_moves bs e offset u small (inl is) =
     let cut = cut_at bs is.front is.rest u (sym is.spells) in
-    let front : chars (take (byte_len is.front) bs) ≡ is.front = front_is bs (byte_len is.front) is.front is.rest u cut.boundary cut.rest is.spells in
-    let utf8 : IsUtf8 (take (byte_len is.front) bs) = IsUtf8-take bs (byte_len is.front) u cut.boundary in
-    refusal_moves literal_parse (take (byte_len is.front) bs) e.error offset utf8 (omega (arith, length-take {A = ℕ}))
-    (subst (λ (t : List ℕ). IsRefused literal_parse t e.error) (sym front) is.refused)
+    let front = front_is bs (byte_len is.front) is.front is.rest u cut.boundary cut.rest is.spells in
+    let utf8 = IsUtf8-take bs (byte_len is.front) u cut.boundary in
+    refusal_moves literal_parse (take (byte_len is.front) bs) e.error offset utf8 (omega (arith, length-take {A = ℕ})) (rw front is.refused)
 malformed_moves bs e offset u small (inr is) = λ x same. let none : span_of e.error ≡ None = ap (λ (r : Refusal). r.span) is.refused.error in cc
 
 -- no literal is empty, so that none ends where the text begins
@@ -86,7 +85,7 @@ no_bytes bs u none = ap length (sym (encodes-chars bs u) ∙ ap encode_utf8_all 
 
 -- a malformed prefix ends at a character
 pub malformed_boundary : (bs : List ℕ) (e : MalformedPrefix) → IsUtf8 bs → IsMalformed (chars bs) e → IsCharBoundary bs e.len
-malformed_boundary bs e u is = subst (λ (n : ℕ). IsCharBoundary bs n) is.len (cut_at bs is.front is.rest u (sym is.spells)).boundary
+malformed_boundary bs e u is = rw (← is.len) (cut_at bs is.front is.rest u (sym is.spells)).boundary
 
 -- the piece that is one character longer than a literal
 pub meant_next : (bs : List ℕ) (start n : ℕ) (d : Derivation) → IsUtf8 bs → IsCharBoundary bs start → IsCharBoundary bs n → chars (drop n bs) ≡ drop 1 (chars (drop start bs)) →

@@ -71,5 +71,5 @@ same_rest t r u d e h g = elim (only_rest t d r h) [
 pub unique : PrefixesAreUnique
 unique t d e r u h g =
     let rest = same_rest t r u d e h g in
-    let front : g.front ≡ h.front = append_cancel_right g.front h.front r (ap (λ (l : List ℕ). g.front ++ l) rest ∙ (g.spells ∙ sym h.spells)) in
+    let front = append_cancel_right g.front h.front r (rw (← rest) at g.spells ∙ sym h.spells) in
     (literals_are_unique h.front d e h.literal (subst (λ (l : List ℕ). IsLiteral l e) front g.literal), rest)

@@ -1,7 +1,7 @@
 -- The words and lemmas of the proofs, from one place.
 pub use denote.Shadow.{shadow}
 pub use denote.Text.{Utf8}
-pub use Rattle.std.proofs.Common.{refl, sym, ap, ◌∙◌, ℕ, List, Some, None, drop, ◌≡◌, ◌<◌, ◌≤◌, [], length, subst, inl, inr, arith, ◌-◌, take, ◌∷◌, ◌++◌, ◌+◌, suc, true, false, Bool, eqb, append_assoc, not, ◌==◌, ◌||◌, if◌then◌else◌, ◌⊎◌, ◌↔◌, ◌&&◌, ◌^◌, add_comm, take_at, zero, Option, IfSome, length-append, append-nil, length-take}
+pub use Rattle.std.proofs.Common.{refl, sym, ap, ◌∙◌, ℕ, List, Some, None, drop, ◌≡◌, ◌<◌, ◌≤◌, [], length, subst, inl, inr, arith, ◌-◌, take, ◌∷◌, ◌++◌, ◌+◌, suc, true, false, Bool, eqb, append_assoc, not, ◌==◌, ◌||◌, if◌then◌else◌, ◌⊎◌, ◌↔◌, ◌&&◌, ◌^◌, add_comm, take_at, ⊎_elim, zero, Option, IfSome, length-append, append-nil, length-take}
 pub use Rattle.std.proofs.lemmas.Bool.{true≢false, false≢true, ne_eqb, and_left, and_parts, eqb-true, eq-eqb, or_right, cases_Bool, false_from_ne_true, not-true, or_left}
 pub use Rattle.std.proofs.lemmas.List.{take_all, append_cancel_right, take-append-drop, drop_all, length-drop, append_cancel_left, length-take-le, drop_at}
 pub use Rattle.std.proofs.lemmas.Str.{IsCharBoundary-from_drop, chars-nil, encodes-chars, IsUtf8-drop, IsCharBoundary-start, chars-append, IsUtf8-take}
