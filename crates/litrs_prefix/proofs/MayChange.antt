@@ -171,10 +171,14 @@ opens_shorter c t m (c_string h) front bool = rw (c_opened t m front h) refl
 opens_shorter c t m (word_true h) front bool = bool h
 opens_shorter c t m (word_false h) front bool = bool h
 
+pub opens_unless_bool : (c : ℕ) (t m : List ℕ) → opens (c ∷ t) ≡ false → is_open_front (c ∷ t) ≡ false →
+    (is_bool (first_name (c ∷ (t ++ m))) ≡ true → is_bool (first_name (c ∷ t)) ≡ true) → opens (c ∷ (t ++ m)) ≡ false
+opens_unless_bool c t m h front bool =
+    false_from_ne_true _ (λ longer. true≢false (sym (opens_shorter c t m (opening _ longer) front bool) ∙ h))
+
 pub opens_never : (t : List ℕ) → opens t ≡ false → (Begins literal_parse t → ⊥) → is_open_front t ≡ false → OpensNever t
 opens_never [] h absent front m text = absurd (absent (bool_text true, a_bool true, refl, refl))
-opens_never (c ∷ t) h absent front m text =
-    false_from_ne_true _ (λ longer. true≢false (sym (opens_shorter c t m (opening _ longer) front bool) ∙ h))
+opens_never (c ∷ t) h absent front m text = opens_unless_bool c t m h front bool
   where
     bool : is_bool (first_name (c ∷ (t ++ m))) ≡ true → is_bool (first_name (c ∷ t)) ≡ true
     bool g = elim (cases_Bool (is_empty (after_name (c ∷ t)))) [
