@@ -1,5 +1,5 @@
 -- The text before a delimiter is a front of the text.
-use Rattle.litrs_prefix.proofs.Words.{◌≡◌, take_at, subst, cases_Bool, inl, inr, ℕ, ◌-◌, ◌&&◌, List, [], ◌∷◌, ◌++◌, length, take, refl, sym, ap, ◌∙◌, append_assoc, length-append, arith, ◌==◌, if◌then◌else◌, chars, IsUtf8, drop_trailing_whitespace, IsEndOf, opens, from_first, after_literal, from_delimiter, before_delimiter, StartsWithDelimiter, is_whitespace}
+use Rattle.litrs_prefix.proofs.Words.{◌≡◌, take_at, subst, cases_Bool, inl, inr, ℕ, ◌-◌, ◌&&◌, List, [], ◌∷◌, ◌++◌, length, take, refl, sym, ap, append_assoc, length-append, arith, ◌==◌, if◌then◌else◌, chars, IsUtf8, drop_trailing_whitespace, IsEndOf, opens, from_first, after_literal, from_delimiter, before_delimiter, StartsWithDelimiter, is_whitespace}
 use Rattle.std.specs.Str.{trim_end}
 use Rattle.std.proofs.lemmas.Str.{chars_from_encodes}
 use Rattle.litrs_prefix.proofs.Ends.{all as whole, bytes_spell, end_of_end}
@@ -50,7 +50,6 @@ trimmed bs r u is = sym (chars_from_encodes (drop_trailing_whitespace (chars bs)
 pub delimiter_at : (ds text after rest : List ℕ) → IsUtf8 text → IsUtf8 rest → after ≡ after_literal (chars text) → chars rest ≡ from_first ds after →
     EndsAt text rest (take (length (chars text) - length (from_delimiter ds (chars text))) (chars text)) × IsEndOf text rest
 delimiter_at ds text after rest u v is from =
-    let t : List ℕ = chars text in
-    let front : List ℕ = take (length t - length (from_delimiter ds t)) t in
-    let spells = ap (λ (l : List ℕ). front ++ l) (from ∙ ap (from_first ds) is) ∙ before_end t _ (delimiter_end ds t) in
+    let front : List ℕ = take (length (chars text) - length (from_delimiter ds (chars text))) (chars text) in
+    let spells : front ++ chars rest ≡ chars text = rw (from, is) (before_end (chars text) _ (delimiter_end ds (chars text))) in
     (ends_at text rest front u v spells, (_, bytes_spell text rest front u v spells))

@@ -1,5 +1,5 @@
 -- Answers that more text changes, and those that stay.
-use Rattle.litrs_prefix.proofs.Words.{◌≡◌, ⊎_elim, is_xid_continue-ascii, ◌⊎◌, inl, inr, eqb, ltb, ℕ, true, false, ◌||◌, List, [], ◌∷◌, ◌++◌, length, length-append, refl, sym, ap, ◌∙◌, append_assoc, append-nil, arith, codes, list_all, chars, IsUtf8, first_passes, is_empty, bool_text, is_bool, Derivation, a_bool, literal_parse, is_quote, PrefixGoesOn, MalformedStay, AnswerStays, AnswerChanges, OpensNever, OpensLater, is_open_prefix, is_open_front, is_quoted_line_feed, after_opened, first_name, after_name, after_hashes, begins_lifetime, opens_raw, opens_bytes, opens_c_string, opens, may_follow, HasPrefix, HasNoPrefix, pointwise, IsText, is_text, Begins, first_run, and_left, cases_Bool, true≢false, false≢true, false_from_ne_true, nat_tests, append_cancel_left, is_xid_start-ascii, some_bool}
+use Rattle.litrs_prefix.proofs.Words.{◌≡◌, ⊎_elim, is_xid_continue-ascii, ◌⊎◌, inl, inr, eqb, ltb, ℕ, true, false, ◌||◌, List, [], ◌∷◌, ◌++◌, length, length-append, refl, sym, ap, ◌∙◌, append_assoc, append-nil, arith, codes, list_all, chars, IsUtf8, is_empty, bool_text, is_bool, Derivation, a_bool, literal_parse, PrefixGoesOn, MalformedStay, AnswerStays, AnswerChanges, OpensNever, OpensLater, is_open_prefix, is_open_front, is_quoted_line_feed, after_opened, first_name, after_name, after_hashes, begins_lifetime, opens_bytes, opens_c_string, opens, may_follow, HasPrefix, HasNoPrefix, pointwise, IsText, is_text, Begins, first_run, and_left, cases_Bool, true≢false, false≢true, false_from_ne_true, nat_tests, append_cancel_left, is_xid_start-ascii, some_bool}
 use Rattle.litrs_base.proofs.Chars.{is_text-chars}
 use Rattle.std.proofs.lemmas.Bool.{or_cases, or_parts}
 use Rattle.litrs_grammar.proofs.Laws.Float.{empty-true}
@@ -130,12 +130,9 @@ quoted_name : (t : List ℕ) → is_empty (after_name t) ≡ true → begins_lif
 quoted_name [] h = and_left _ _ (is_xid_start-ascii 39 (omega arith))
 quoted_name (c ∷ t) h = grind (arith, run_whole t (39 ∷ []), is_xid_continue-ascii)
 
-raw_later : (t : List ℕ) → is_empty (after_hashes t) ≡ true → opens_raw (t ++ 34 ∷ []) ≡ true
-raw_later t h = ap (first_passes is_quote) (hashes_to t (34 ∷ []) h)
-
 -- a quote of one of the two kinds opens it
 quotes_open : (c : ℕ) (t : List ℕ) → is_open_front (c ∷ t) ≡ true → (opens (c ∷ (t ++ 39 ∷ [])) ≡ true) ⊎ (opens (c ∷ (t ++ 34 ∷ [])) ≡ true)
-quotes_open c t h = grind (arith, nat_tests, quoted_name t, raw_later)
+quotes_open c t h = grind (arith, nat_tests, quoted_name t, hashes_to)
 
 pub front_later : (t : List ℕ) → is_open_front t ≡ true → OpensLater t
 front_later [] h = absurd (false≢true h)
@@ -151,11 +148,8 @@ begins_bool t z h =
     let bool = some_bool (t ++ z) h in
     (z, a_bool bool.0, (text_parts t z (rw (← bool.1) (grind arith))).1, bool.1)
 
-bytes_opened : (t m : List ℕ) → is_open_prefix t ≡ false → opens_bytes (t ++ m) ≡ true → opens_bytes t ≡ true
-bytes_opened t m h g = grind (arith, raw_stays)
-
-c_opened : (t m : List ℕ) → is_open_prefix t ≡ false → opens_c_string (t ++ m) ≡ true → opens_c_string t ≡ true
-c_opened t m h g = grind (arith, raw_stays)
+prefix_stays : (t m : List ℕ) → is_open_prefix t ≡ false → (opens_bytes (t ++ m) ≡ opens_bytes t) × (opens_c_string (t ++ m) ≡ opens_c_string t)
+prefix_stays t m h = (grind (arith, raw_stays), grind (arith, raw_stays))
 
 -- a literal begins with the shorter text too, unless the name at the front becomes a bool
 opens_shorter : (c : ℕ) (t m : List ℕ) → Opening (c ∷ (t ++ m)) → is_open_front (c ∷ t) ≡ false →
@@ -166,8 +160,8 @@ opens_shorter c t m (single h) front bool =
     let none = or_parts (is_empty (after_name t)) false (or_parts (is_empty (after_name t) || false) false front).0 in
     rw (sym (lifetime_stays t m none.0) ∙ h) refl
 opens_shorter c t m (raw h) front bool = rw (sym (raw_stays t m (or_parts (is_empty (after_hashes t)) false front).0) ∙ h) refl
-opens_shorter c t m (bytes h) front bool = rw (bytes_opened t m front h) refl
-opens_shorter c t m (c_string h) front bool = rw (c_opened t m front h) refl
+opens_shorter c t m (bytes h) front bool = rw (sym (prefix_stays t m front).0 ∙ h) refl
+opens_shorter c t m (c_string h) front bool = rw (sym (prefix_stays t m front).1 ∙ h) refl
 opens_shorter c t m (word_true h) front bool = bool h
 opens_shorter c t m (word_false h) front bool = bool h
 

@@ -1,6 +1,6 @@
 -- If a literal is at the front of a text, one begins there, and its rest is what follows what opens
 -- there.
-use Rattle.litrs_prefix.proofs.Words.{◌≡◌, ℕ, zero, suc, Bool, true, false, List, ◌∷◌, ◌++◌, refl, sym, ap, ◌∙◌, arith, ◌⊎◌, inl, inr, ◌+◌, ◌<◌, [], drop, subst, append_assoc, ◌==◌, is_ascii_digit, first_passes, char_kind, byte_kind, switches_of, quoted_front, raw_front, char_front, starts_identifier, bool_text, plain_char, escaped_char, char_item_text, is_char_item, IsCharLiteral, hashes, raw_closing, RawParts, IsRawLiteral, Derivation, a_bool, an_integer, a_float, a_char, a_byte, IsLiteral, may_follow, ends_bool, ends_suffix, ends_float, HasPrefix, after_hashes, begins_lifetime, opens_raw, opens, after_name, PrefixesOpen, list_all, is_xid_continue, Switches, IsFloatOf, IntegerParts, IsIntegerOf, is_e, IsQuotedLiteral, past_quote, past_single_quote, after_single_quote, after_quoted, after_char, after_closing, after_raw, after_number, after_body, after_opened, StringKind, string_kind, byte_string_kind, c_string_kind, is_suffix, CharItem, CharParts, occurs, StringParts, quoted_parts, raw_parts, IsString, a_string, a_byte_string, a_c_string, string_suffix, prefix, is_digit_or_underscore, is_blank, IntegerBase, Binary, Octal, Decimal, Hexadecimal, CharKind, Escape, simple_escape, hex_escape, unicode_escape, escape_text, is_escape, is_hex_or_underscore, FloatParts, Item, plain_item, escape_item, continuation, item_text, is_item, body_text, is_body, QuotedParts, and_parts, or_left, not-true, starts_with_digit, first_passes-append, suffix_no_period, nat_tests, is_xid_start-ascii, is_xid_continue-ascii, cut_of_text, hash_len-append}
+use Rattle.litrs_prefix.proofs.Words.{◌≡◌, ℕ, zero, suc, Bool, true, false, List, ◌∷◌, ◌++◌, refl, sym, ap, ◌∙◌, arith, ◌⊎◌, inl, inr, ◌<◌, [], subst, append_assoc, ◌==◌, is_ascii_digit, first_passes, char_kind, byte_kind, switches_of, quoted_front, raw_front, char_front, starts_identifier, bool_text, plain_char, escaped_char, char_item_text, is_char_item, IsCharLiteral, hashes, raw_closing, RawParts, IsRawLiteral, Derivation, a_bool, an_integer, a_float, a_char, a_byte, IsLiteral, may_follow, ends_bool, ends_suffix, ends_float, HasPrefix, after_hashes, begins_lifetime, opens_raw, opens, after_name, PrefixesOpen, list_all, is_xid_continue, Switches, IsFloatOf, IntegerParts, IsIntegerOf, is_e, IsQuotedLiteral, past_quote, past_single_quote, after_single_quote, after_char, after_closing, after_raw, after_number, after_body, after_opened, StringKind, string_kind, byte_string_kind, c_string_kind, is_suffix, CharItem, CharParts, occurs, StringParts, quoted_parts, raw_parts, IsString, a_string, a_byte_string, a_c_string, string_suffix, prefix, is_digit_or_underscore, is_blank, IntegerBase, Binary, Octal, Decimal, Hexadecimal, CharKind, Escape, simple_escape, hex_escape, unicode_escape, escape_text, is_escape, is_hex_or_underscore, FloatParts, Item, plain_item, escape_item, continuation, item_text, is_item, body_text, is_body, QuotedParts, and_parts, or_left, starts_with_digit, first_passes-append, suffix_no_period, nat_tests, is_xid_start-ascii, is_xid_continue-ascii, cut_of_text, hash_len-append}
 use Rattle.litrs_grammar.proofs.QuotedItems.{escape_second}
 use Rattle.litrs_grammar.proofs.Laws.Float.{starts_digit}
 use Rattle.litrs_base.proofs.Runs.{list_all-append, list_all-weaken}
@@ -79,16 +79,14 @@ escape_passed w (unicode_escape u) t h =
 pub item_passed : (w : Switches) (a : Item) (t : List ℕ) → is_item w a ≡ true → past_quote 34 false (item_text a ++ t) ≡ past_quote 34 false t
 item_passed w (plain_item c) t h = grind (arith, nat_tests)
 item_passed w (escape_item e) t h = escape_passed w e t h
-item_passed w (continuation blanks) t h = run_passed is_blank (λ c b. (grind (arith, nat_tests), grind (arith, nat_tests))) blanks t h
+item_passed w (continuation blanks) t h = grind (arith, nat_tests, run_passed is_blank)
 
 body_passed : (w : Switches) (items : List Item) (x : List ℕ) → is_body w items ≡ true → past_quote 34 false (body_text items ++ 34 ∷ x) ≡ x
 body_passed w [] x h = refl
-body_passed w (a ∷ items) x h =
-    let p = and_parts _ _ h in
-    rw (append_assoc (item_text a) (body_text items) (34 ∷ x), item_passed w a (body_text items ++ 34 ∷ x) (and_parts _ _ p.0).0) (body_passed w items x p.1)
+body_passed w (a ∷ items) x h = grind (arith, append_assoc, item_passed w a (body_text items ++ 34 ∷ x), body_passed w items x)
 
 pub quoted_opened : (kind : StringKind) (y : List ℕ) → after_opened (quoted_front kind ++ y) ≡ after_name (past_quote 34 false y)
-quoted_opened kind y = (let body : after_body (quoted_front kind ++ y) ≡ after_quoted y = grind arith in ap after_name (body ∙ sym (past_quote_is 34 refl y)))
+quoted_opened kind y = grind (arith, past_quote_is)
 
 quoted_rest : (kind : StringKind) (s r : List ℕ) (q : QuotedParts) → IsQuotedLiteral kind s q → ends_suffix q.suffix r ≡ true → after_opened (s ++ r) ≡ r
 quoted_rest kind s r q h e =
@@ -120,7 +118,7 @@ char_rest kind s r d h e =
 -- raw strings
 
 raw_closed : (n : ℕ) (body x : List ℕ) → occurs (raw_closing n) body ≡ false → after_closing n (body ++ (raw_closing n ++ x)) ≡ x
-raw_closed n body x h = ap (λ (k : ℕ). drop (k + (1 + n)) (body ++ (raw_closing n ++ x))) (length_before-body n body x h) ∙ raw.after_closing n body x
+raw_closed n body x h = rw (length_before-body n body x h) (raw.after_closing n body x)
 
 raw_body : (kind : StringKind) (y : List ℕ) → opens_raw y ≡ true → after_body (raw_front kind ++ y) ≡ after_raw y
 raw_body kind y h = grind arith
@@ -133,8 +131,7 @@ raw_rest kind s r d h e =
     rw (longer_raw kind s r d h, raw_opened kind d.hash_count, raw_closed d.hash_count d.body (d.suffix ++ r) h.grammar.body.unclosed) (name_after d.suffix r h.grammar.suffix e)
 
 string_rest : (kind : StringKind) (s r : List ℕ) (d : StringParts) → IsString kind s d → ends_suffix (string_suffix d) r ≡ true → after_opened (s ++ r) ≡ r
-string_rest kind s r (quoted_parts d) h e = quoted_rest kind s r d h e
-string_rest kind s r (raw_parts d) h e = raw_rest kind s r d h e
+string_rest kind s r d h e = grind (arith, quoted_rest, raw_rest)
 
 -- bools
 
@@ -157,8 +154,7 @@ word_continues base c h = let low : c < 128 = grind (arith, nat_tests) in is_xid
 letter_rest : (base : IntegerBase) (b : ℕ) (m : List ℕ) (c : ℕ) (x r : List ℕ) → starts_identifier b ≡ true → list_all (is_digit_or_underscore base) m ≡ true →
     is_suffix (c ∷ x) ≡ true → ends_suffix (c ∷ x) r ≡ true → after_name (b ∷ (m ++ (c ∷ (x ++ r)))) ≡ r
 letter_rest base b m c x r starts digits suffix e =
-    let passes = list_all-weaken (is_digit_or_underscore base) is_xid_continue (word_continues base) m digits in
-    rw (starts, ← append_assoc m (c ∷ x) r) (run_after (m ++ (c ∷ x)) r (list_all-append is_xid_continue m (c ∷ x) passes (suffix_continues (c ∷ x) suffix)) (not-true _ e))
+    grind (arith, run_after (m ++ (c ∷ x)) r, append_assoc m (c ∷ x) r, list_all-append is_xid_continue m (c ∷ x), suffix_continues (c ∷ x), list_all-weaken (is_digit_or_underscore base) is_xid_continue (word_continues base) m)
 
 base_rest : (base : IntegerBase) (m : List ℕ) (c : ℕ) (x r : List ℕ) → list_all (is_digit_or_underscore base) m ≡ true → is_digit_or_underscore base c ≡ false →
     is_suffix (c ∷ x) ≡ true → is_e c ≡ false → ends_suffix (c ∷ x) r ≡ true → after_name (after_number (prefix base ++ (m ++ (c ∷ (x ++ r))))) ≡ r
@@ -178,8 +174,7 @@ IsBare d = (x : IntegerParts) × (d ≡ an_integer x) × (x.suffix ≡ [])
 -- An integer without a suffix may end before what opens there does, as in `1..2`.
 number_rest : (base : IntegerBase) (m x r : List ℕ) → list_all (is_digit_or_underscore base) m ≡ true → first_passes (is_digit_or_underscore base) x ≡ false →
     is_suffix x ≡ true → first_passes is_e x ≡ false → ends_suffix x r ≡ true → (after_name (after_number (prefix base ++ (m ++ (x ++ r)))) ≡ r) ⊎ (x ≡ [])
-number_rest base m [] r digits ends suffix letter e = inr refl
-number_rest base m (c ∷ x) r digits ends suffix letter e = inl (base_rest base m c x r digits ends suffix letter e)
+number_rest base m x r digits ends suffix letter e = grind (arith, base_rest base m)
 
 integer_rest : (s r : List ℕ) (d : IntegerParts) → IsIntegerOf s d → ends_suffix d.suffix r ≡ true → (after_opened (s ++ r) ≡ r) ⊎ IsBare (an_integer d)
 integer_rest s r d h e =

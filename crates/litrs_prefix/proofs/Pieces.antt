@@ -24,10 +24,9 @@ piece_len bs front n u bound before size =
 -- the literal that is the front
 pub front_found : (bs front rest : List ℕ) (n : ℕ) (x : Derivation) → IsUtf8 bs → front ≡ take n bs → rest ≡ drop n bs → IsLiteralLen bs n ⊎ IsMalformedLen bs n → IsLiteral (chars front) x →
     HasPrefix (chars bs) x (chars rest)
-front_found bs front rest n x u before after (inr is) h = absurd (is.front.invalid x (subst (λ (l : List ℕ). IsLiteral (chars l) x) before h))
+front_found bs front rest n x u before after (inr is) h = absurd (is.front.invalid x (rw before at h))
 front_found bs front rest n x u before after (inl is) h =
-    let literal = piece_is bs front n is.literal (chars (drop n bs)) u before (is.boundary, refl) is.at_front in
-    rw (after, ← literals_are_unique (chars front) is.literal x literal h) is.at_front
+    grind (arith, piece_is bs front n is.literal (chars (drop n bs)) u before (is.boundary, refl) is.at_front, literals_are_unique (chars front) is.literal x)
 
 -- a malformed front, and its error
 pub malformed_of : (t front : List ℕ) (e : MalformedPrefix) → IsMalformedFront t front → byte_len front ≡ e.len → 0 < e.len → IsRefused literal_parse front e.error → IsMalformed t e
@@ -67,16 +66,14 @@ no_empty_piece bs d r at place = no_literal d (rw (append_cancel_right at.front 
 -- a text that ends with a period, in bytes and in characters
 pub period_bytes : (bs front : List ℕ) → IsUtf8 bs → front ++ 46 ∷ [] ≡ chars bs → encode_utf8_all front ++ 46 ∷ [] ≡ bs
 period_bytes bs front u is =
-    ap (λ (l : List ℕ). encode_utf8_all front ++ l) (sym (encodes-IsAscii (46 ∷ []) (ascii_by_test (46 ∷ []) refl)))
-    ∙ (sym (encodes-append front (46 ∷ [])) ∙ (ap encode_utf8_all is ∙ encodes-chars bs u))
+    rw (← encodes-chars bs u, ← is, encodes-append front (46 ∷ []), encodes-IsAscii (46 ∷ []) (ascii_by_test (46 ∷ []) refl)) refl
 
 -- the text before the period, in bytes, is the integer
 pub period_after : (bs front : List ℕ) (n : ℕ) → IsUtf8 bs → front ≡ take (length bs - n) bs → n ≡ 1 → bs ≡ take (length bs - n) bs ++ 46 ∷ [] → IsCharBoundary bs (length bs - 1) →
     IsIntegerAndPeriod (chars bs) ↔ IsBareInteger (chars front)
 period_after bs front n u before one is bound =
     let text : IsUtf8 front = rw (before, one) (IsUtf8-take bs (length bs - 1) u bound) in
-    let low = chars-IsAscii (46 ∷ []) (ascii_by_test (46 ∷ []) refl) in
-    let spells : chars front ++ 46 ∷ [] ≡ chars bs = cc (chars-append front (46 ∷ []) text) in
+    let spells : chars front ++ 46 ∷ [] ≡ chars bs = cc (chars-append front (46 ∷ []) text, chars-IsAscii (46 ∷ []) (ascii_by_test (46 ∷ []) refl)) in
     (λ integer. subst IsBareInteger (append_cancel_right integer.0 (chars front) (46 ∷ []) (integer.2 ∙ sym spells)) integer.1, λ bare. (chars front, bare, spells))
 
 -- a text without characters has no bytes

@@ -13,20 +13,17 @@ run_past p goes (c ∷ t) = grind (arith, drop_passed, goes c, run_past p goes t
 -- the characters at the front of a text that pass a test of ASCII characters, in bytes
 pub ascii_front : (p : ℕ → Bool) → OnlyAscii p → (bs : List ℕ) → IsUtf8 bs → IsCharBoundary bs (prefix_len p bs) × (chars (drop (prefix_len p bs) bs) ≡ drop (prefix_len p (chars bs)) (chars bs))
 ascii_front p only bs u =
-    let f = passing_front p bs only u in
-    grind (arith, prefix_len-chars p bs only u, IsCharBoundary-from_drop)
+    grind (arith, passing_front p bs only u, prefix_len-chars p bs only u, IsCharBoundary-from_drop)
 
 -- the place at which the text is cut after the ASCII characters
 pub name_cut : (bs : List ℕ) (n : ℕ) → IsUtf8 bs → n ≡ prefix_len is_word bs → IsCharBoundary bs n × (after_run (chars (drop n bs)) ≡ after_run (chars bs))
 name_cut bs n u is =
-    let cut = ascii_front is_word words_are_ascii bs u in
     let goes = λ (c : ℕ) (h : is_word c ≡ true). is_xid_continue-ascii c (ascii_from_test is_word c words_are_ascii h) ∙ h in
-    rw is (cut.0, ap after_run cut.1 ∙ sym (run_past is_word goes (chars bs)))
+    grind (arith, ascii_front is_word words_are_ascii bs u, run_past is_word goes (chars bs))
 
 -- no more characters pass before an ASCII character that does not
 ends_at : (bs : List ℕ) → first_passes is_word bs ≡ false → first_passes (nat_le 128) bs ≡ false → after_run (chars bs) ≡ chars bs
-ends_at [] a b = ap after_run chars-nil ∙ sym chars-nil
-ends_at (c ∷ bs) a b = grind (arith, nat_tests, chars_ascii, is_xid_continue-ascii)
+ends_at bs a b = grind (arith, nat_tests, chars_ascii, is_xid_continue-ascii, chars-nil)
 
 pub name_ends : (bs rest : List ℕ) (n : ℕ) → IsUtf8 bs → n ≡ prefix_len is_word bs → rest ≡ drop n bs → first_passes (nat_le 128) rest ≡ false → chars rest ≡ after_run (chars bs)
 name_ends bs rest n u is back narrow = grind (arith, ends_at rest, first_passes-rest is_word bs, name_cut bs n u is)
@@ -39,9 +36,7 @@ bool_low b = grind arith
 -- a text after an ASCII word at its front
 pub front_cut : (word bs : List ℕ) (n : ℕ) → list_all (λ c. ltb c 128) word ≡ true → IsUtf8 bs → begins_with word bs ≡ true → n ≡ length word → IsCharBoundary bs n × (word ++ chars (drop n bs) ≡ chars bs)
 front_cut word bs n low u begins is =
-    let f = begins_front word bs low begins u in
-    let split = begins_with-split word (chars bs) (begins_with-chars word bs low u ∙ begins) in
-    grind (arith, IsCharBoundary-from_drop bs (length word) f.within f.utf8)
+    grind (arith, begins_front word bs low begins u, begins_with-split word (chars bs), begins_with-chars word bs low u, IsCharBoundary-from_drop bs (length word))
 
 pub bool_front : (bs : List ℕ) (b : Bool) (n : ℕ) → IsUtf8 bs → begins_with (bool_text b) bs ≡ true → n ≡ length (bool_text b) → IsCharBoundary bs n × (bool_text b ++ chars (drop n bs) ≡ chars bs)
 bool_front bs b n = front_cut (bool_text b) bs n (bool_low b)

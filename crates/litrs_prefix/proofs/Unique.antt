@@ -54,9 +54,9 @@ bare_rest t r u x e h g (inr (y, is)) =
 
 bare_same : (t r u : List ℕ) (x : IntegerParts) (d e : Derivation) → d ≡ an_integer x → HasPrefix t d r → HasPrefix t e u → r ≡ u
 bare_same t r u x d e is h g =
-    let lit : HasPrefix t (an_integer x) r = subst (λ (a : Derivation). HasPrefix t a r) is h in
+    let lit : HasPrefix t (an_integer x) r = rw is at h in
     let digit = first_passes-append is_ascii_digit lit.front r (starts_with_digit lit.front x lit.literal) in
-    bare_rest t r u x e lit g (number_of g.front u e g.literal (ap (first_passes is_ascii_digit) (g.spells ∙ sym lit.spells) ∙ digit))
+    bare_rest t r u x e lit g (number_of g.front u e g.literal (rw (g.spells, ← lit.spells) digit))
 
 same_rest : (t r u : List ℕ) (d e : Derivation) → HasPrefix t d r → HasPrefix t e u → r ≡ u
 same_rest t r u d e h g = elim (only_rest t d r h) [
