@@ -1,5 +1,5 @@
 -- The text before a delimiter is a front of the text.
-use Rattle.litrs_prefix.proofs.Words.{◌≡◌, take_at, subst, cases_Bool, inl, inr, ℕ, ◌-◌, ◌&&◌, List, [], ◌∷◌, ◌++◌, length, take, refl, sym, ap, append_assoc, length-append, arith, ◌==◌, if◌then◌else◌, chars, IsUtf8, drop_trailing_whitespace, IsEndOf, opens, from_first, after_literal, from_delimiter, before_delimiter, StartsWithDelimiter, is_whitespace}
+use Rattle.litrs_prefix.proofs.Words.{◌≡◌, take_at, cases_Bool, inl, inr, ℕ, ◌-◌, ◌&&◌, List, [], ◌∷◌, ◌++◌, length, take, refl, sym, append_assoc, length-append, arith, ◌==◌, if◌then◌else◌, chars, IsUtf8, drop_trailing_whitespace, IsEndOf, opens, from_first, after_literal, from_delimiter, before_delimiter, StartsWithDelimiter, is_whitespace}
 use Rattle.std.specs.Str.{trim_end}
 use Rattle.std.proofs.lemmas.Str.{chars_from_encodes}
 use Rattle.litrs_prefix.proofs.Ends.{all as whole, bytes_spell, end_of_end}
@@ -31,8 +31,7 @@ trailing (c ∷ t) = ((if is_whitespace c && (length (drop_trailing_whitespace t
 
 -- a text without its end
 before_end : (t x : List ℕ) → IsEndOf t x → take (length t - length x) t ++ x ≡ t
-before_end t x end = subst (λ (l : List ℕ). take (length l - length x) l ++ x ≡ l) end.1
-    (ap (λ (l : List ℕ). l ++ x) (take_at end.0 x _ (omega (arith, length-append end.0 x))))
+before_end t x end = grind (arith, take_at end.0 x, length-append end.0 x)
 
 -- the text before a delimiter, and all that follows it
 pub before_front : (ds t : List ℕ) → (more : List ℕ) × (before_delimiter ds t ++ more ≡ t)

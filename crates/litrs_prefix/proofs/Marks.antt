@@ -43,8 +43,7 @@ points t e (inr is) = (let none = ap (λ (r : Refusal). r.span) is.error in grin
 pub front_marks : (bs front rest : List ℕ) (start : ℕ) (e : MalformedPrefix) (of_text : ParseError) → IsUtf8 bs → IsCharBoundary bs start → front ++ rest ≡ chars (drop start bs) → byte_len front ≡ e.len →
     char_span_of e.error ≡ shifted_span start (char_span_of of_text) → IsRefusedOrOutOfMemory literal_parse front of_text → IsMarkedAt start bs e
 front_marks bs front rest start e of_text utf8 bound spells len same refused =
-    let piece = piece_cut bs front rest start e utf8 bound spells len in
-    (piece, span_cut bs front rest start (prefix_span start e) (char_span_of of_text) (char_span_of e.error) utf8 bound spells piece same (points front of_text refused))
+    grind (arith, piece_cut bs front rest start e utf8 bound spells len, span_cut bs front rest start (prefix_span start e) (char_span_of of_text) (char_span_of e.error) utf8 bound spells, points front of_text refused)
 
 -- the error of what follows `start` bytes of the text
 pub moved_marks : (bs : List ℕ) (start : ℕ) (e f : MalformedPrefix) → IsUtf8 bs → IsCharBoundary bs start → IsMalformedOrOutOfMemory (chars (drop start bs)) f → e.len ≡ f.len →

@@ -96,8 +96,7 @@ literal_changes t d at = (120 ∷ [], refl, go)
     go none is longer = true≢false (sym (opened t d [] at) ∙ is)
     go (literal e front) is longer =
         let same = unique t e d is.0 [] is.2 at in
-        let all : front ≡ t = rw (same.1, append-nil) at is.1 in
-        let rest = append_cancel_left t longer.0 (120 ∷ []) (rw all at longer.1) in
+        let rest = append_cancel_left t longer.0 (120 ∷ []) (rw (rw (same.1, append-nil) at is.1) at longer.1) in
         true≢false (sym (rw rest at longer.2.follows) ∙ letter_follows_none e)
     go (malformed front) is longer = is.none d [] at
 

@@ -1,6 +1,6 @@
 -- If a literal is at the front of a text, one begins there, and its rest is what follows what opens
 -- there.
-use Rattle.litrs_prefix.proofs.Words.{◌≡◌, ℕ, zero, suc, Bool, true, false, List, ◌∷◌, ◌++◌, refl, sym, ap, ◌∙◌, arith, ◌⊎◌, inl, inr, ◌<◌, [], subst, append_assoc, ◌==◌, is_ascii_digit, first_passes, char_kind, byte_kind, switches_of, quoted_front, raw_front, char_front, starts_identifier, bool_text, plain_char, escaped_char, char_item_text, is_char_item, IsCharLiteral, hashes, raw_closing, RawParts, IsRawLiteral, Derivation, a_bool, an_integer, a_float, a_char, a_byte, IsLiteral, may_follow, ends_bool, ends_suffix, ends_float, HasPrefix, after_hashes, begins_lifetime, opens_raw, opens, after_name, PrefixesOpen, list_all, is_xid_continue, Switches, IsFloatOf, IntegerParts, IsIntegerOf, is_e, IsQuotedLiteral, past_quote, past_single_quote, after_single_quote, after_char, after_closing, after_raw, after_number, after_body, after_opened, StringKind, string_kind, byte_string_kind, c_string_kind, is_suffix, CharItem, CharParts, occurs, StringParts, quoted_parts, raw_parts, IsString, a_string, a_byte_string, a_c_string, string_suffix, prefix, is_digit_or_underscore, is_blank, IntegerBase, Binary, Octal, Decimal, Hexadecimal, CharKind, Escape, simple_escape, hex_escape, unicode_escape, escape_text, is_escape, is_hex_or_underscore, FloatParts, Item, plain_item, escape_item, continuation, item_text, is_item, body_text, is_body, QuotedParts, and_parts, or_left, starts_with_digit, first_passes-append, suffix_no_period, nat_tests, is_xid_start-ascii, is_xid_continue-ascii, cut_of_text, hash_len-append}
+use Rattle.litrs_prefix.proofs.Words.{◌≡◌, ℕ, zero, suc, Bool, true, false, List, ◌∷◌, ◌++◌, refl, sym, ap, ◌∙◌, arith, ◌⊎◌, inl, ◌<◌, [], subst, append_assoc, ◌==◌, is_ascii_digit, first_passes, char_kind, byte_kind, switches_of, quoted_front, raw_front, char_front, starts_identifier, bool_text, plain_char, escaped_char, char_item_text, is_char_item, IsCharLiteral, hashes, raw_closing, RawParts, IsRawLiteral, Derivation, a_bool, an_integer, a_float, a_char, a_byte, IsLiteral, may_follow, ends_bool, ends_suffix, ends_float, HasPrefix, after_hashes, begins_lifetime, opens_raw, opens, after_name, PrefixesOpen, list_all, is_xid_continue, Switches, IsFloatOf, IntegerParts, IsIntegerOf, is_e, IsQuotedLiteral, past_quote, past_single_quote, after_single_quote, after_char, after_closing, after_raw, after_number, after_body, after_opened, StringKind, string_kind, byte_string_kind, c_string_kind, is_suffix, CharItem, CharParts, occurs, StringParts, quoted_parts, raw_parts, IsString, a_string, a_byte_string, a_c_string, string_suffix, prefix, is_digit_or_underscore, is_blank, IntegerBase, Decimal, CharKind, Escape, simple_escape, hex_escape, unicode_escape, escape_text, is_escape, is_hex_or_underscore, FloatParts, Item, plain_item, escape_item, continuation, item_text, is_item, body_text, is_body, QuotedParts, and_parts, or_left, starts_with_digit, first_passes-append, suffix_no_period, nat_tests, is_xid_start-ascii, is_xid_continue-ascii, cut_of_text, hash_len-append}
 use Rattle.litrs_grammar.proofs.QuotedItems.{escape_second}
 use Rattle.litrs_grammar.proofs.Laws.Float.{starts_digit}
 use Rattle.litrs_base.proofs.Runs.{list_all-append, list_all-weaken}
@@ -160,12 +160,7 @@ base_rest : (base : IntegerBase) (m : List ℕ) (c : ℕ) (x r : List ℕ) → l
     is_suffix (c ∷ x) ≡ true → is_e c ≡ false → ends_suffix (c ∷ x) r ≡ true → after_name (after_number (prefix base ++ (m ++ (c ∷ (x ++ r))))) ≡ r
 base_rest Decimal m c x r digits ends suffix letter e =
     rw (number_parts (m ++ (c ∷ (x ++ r))), digits_passed m (c ∷ (x ++ r)) digits ends, suffix_no_period (c ∷ x) suffix, letter) (name_after (c ∷ x) r suffix e)
-base_rest Binary m c x r digits ends suffix letter e =
-    ap after_name (number_parts (48 ∷ 98 ∷ (m ++ (c ∷ (x ++ r))))) ∙ letter_rest Binary 98 m c x r (is_xid_start-ascii 98 (omega arith)) digits suffix e
-base_rest Octal m c x r digits ends suffix letter e =
-    ap after_name (number_parts (48 ∷ 111 ∷ (m ++ (c ∷ (x ++ r))))) ∙ letter_rest Octal 111 m c x r (is_xid_start-ascii 111 (omega arith)) digits suffix e
-base_rest Hexadecimal m c x r digits ends suffix letter e =
-    ap after_name (number_parts (48 ∷ 120 ∷ (m ++ (c ∷ (x ++ r))))) ∙ letter_rest Hexadecimal 120 m c x r (is_xid_start-ascii 120 (omega arith)) digits suffix e
+base_rest base m c x r digits ends suffix letter e = grind (arith, number_parts, letter_rest base, is_xid_start-ascii)
 
 -- an integer without a suffix
 abbrev pub IsBare : Derivation → Type 0
@@ -179,10 +174,8 @@ number_rest base m x r digits ends suffix letter e = grind (arith, base_rest bas
 integer_rest : (s r : List ℕ) (d : IntegerParts) → IsIntegerOf s d → ends_suffix d.suffix r ≡ true → (after_opened (s ++ r) ≡ r) ⊎ IsBare (an_integer d)
 integer_rest s r d h e =
     let g = h.grammar in
-    elim (number_rest d.base d.main d.suffix r g.digits g.ends g.suffix g.no_exponent e) [
-      | inl is ↦ inl (rw (number_body (s ++ r) (first_passes-append is_ascii_digit s r (starts_with_digit s d h)), longer_integer s r d h) is)
-      | inr bare ↦ inr (d, refl, bare)
-    ]
+    let number = number_rest d.base d.main d.suffix r g.digits g.ends g.suffix g.no_exponent e in
+    grind (arith, number_body (s ++ r) (first_passes-append is_ascii_digit s r (starts_with_digit s d h)), longer_integer s r d h)
 
 -- literals of every kind
 

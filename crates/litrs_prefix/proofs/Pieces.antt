@@ -47,8 +47,7 @@ front_refused bs front rest n e u before after size (inl is) (inr memory) = inr 
 })
 front_refused bs front rest n e u before after size (inr is) (inr memory) = absurd (is.front.invalid memory.derivation (rw before at memory.literal))
 front_refused bs front rest n e u before after size (inr is) (inl refused) =
-    let malformed : IsMalformedFront (chars bs) (chars front) = rw before is.front in
-    inl (malformed_of (chars bs) (chars front) _ malformed (piece_len bs front n u is.boundary before size) is.some refused)
+    inl (malformed_of (chars bs) (chars front) _ (rw before is.front) (piece_len bs front n u is.boundary before size) is.some refused)
 
 -- the offset by which the spans of an error are moved fits, if it is within the source text
 pub malformed_moves : (bs : List ℕ) (e : MalformedPrefix) (offset : ℕ) → IsUtf8 bs → offset + length bs < 2 ^ 64 → IsMalformedOrOutOfMemory (chars bs) e → MovesWithin offset e.error

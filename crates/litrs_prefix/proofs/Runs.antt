@@ -1,5 +1,5 @@
 -- Names at the front of a text: their ASCII characters are passed by their bytes.
-use Rattle.litrs_prefix.proofs.Words.{◌≡◌, ℕ, Bool, true, false, List, [], ◌∷◌, ◌++◌, length, drop, refl, sym, ap, ◌∙◌, arith, if◌then◌else◌, nat_le, list_all, prefix_len, chars, IsUtf8, IsCharBoundary, is_xid_continue, begins_with, first_passes, bool_text, is_bool, after_run, after_name, first_name, ltb, true≢false, false_from_ne_true, nat_tests, IsCharBoundary-from_drop, chars-nil, is_xid_continue-ascii, begins_with-split, begins_with-append, OnlyAscii, chars_ascii, begins_with-chars, begins_front, prefix_len-chars, first_passes-rest, some_bool, is_word, words_are_ascii}
+use Rattle.litrs_prefix.proofs.Words.{◌≡◌, ℕ, Bool, true, false, List, [], ◌∷◌, ◌++◌, length, drop, refl, ◌∙◌, arith, if◌then◌else◌, nat_le, list_all, prefix_len, chars, IsUtf8, IsCharBoundary, is_xid_continue, begins_with, first_passes, bool_text, is_bool, after_run, after_name, first_name, ltb, false_from_ne_true, nat_tests, IsCharBoundary-from_drop, chars-nil, is_xid_continue-ascii, begins_with-split, begins_with-append, OnlyAscii, chars_ascii, begins_with-chars, begins_front, prefix_len-chars, first_passes-rest, some_bool, is_word, words_are_ascii}
 use Rattle.litrs_base.proofs.Chars.{ascii_from_test, passing_front}
 use Rattle.litrs_prefix.proofs.Names.{name_and_rest}
 
@@ -45,5 +45,5 @@ bool_front bs b n = front_cut (bool_text b) bs n (bool_low b)
 pub no_bool_name : (bs : List ℕ) → IsUtf8 bs → ((b : Bool) → begins_with (bool_text b) bs ≡ false) → is_bool (first_name (chars bs)) ≡ false
 no_bool_name bs u none = false_from_ne_true (is_bool (first_name (chars bs))) (λ is.
     let b = some_bool (first_name (chars bs)) is in
-    let spells : bool_text b.0 ++ after_name (chars bs) ≡ chars bs = ap (λ (l : List ℕ). l ++ after_name (chars bs)) b.1 ∙ name_and_rest (chars bs) in
-    true≢false (sym (begins_with-append (bool_text b.0) (after_name (chars bs))) ∙ (ap (begins_with (bool_text b.0)) spells ∙ (begins_with-chars (bool_text b.0) bs (bool_low b.0) u ∙ none b.0))))
+    let begins = begins_with-append (bool_text b.0) (after_name (chars bs)) in
+    grind (arith, name_and_rest (chars bs), begins_with-chars (bool_text b.0) bs (bool_low b.0) u, none b.0))
