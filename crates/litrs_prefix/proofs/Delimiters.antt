@@ -1,12 +1,8 @@
 -- The text before a delimiter is a front of the text.
-use Rattle.std.proofs.Common.{◌≡◌, ℕ, ◌+◌, ◌-◌, ◌≤◌, Bool, true, false, ◌&&◌, List, [], ◌∷◌, ◌++◌, length, take, drop, refl, sym, ap, ◌∙◌, append_assoc, length-append, arith, ◌==◌, if◌then◌else◌}
-use Rattle.litrs_prefix.specs.Words.{chars, IsUtf8, IsCharBoundary, drop_trailing_whitespace, IsEndOf, IsMarkedAt, after_opened, opens, from_first, after_literal, from_delimiter, before_delimiter, StartsWithDelimiter, IsRefusedUntil, is_whitespace, MalformedPrefix}
+use Rattle.litrs_prefix.proofs.Words.{◌≡◌, take_at, cases_Bool, inl, inr, ℕ, ◌-◌, ◌&&◌, List, [], ◌∷◌, ◌++◌, length, take, refl, sym, append_assoc, length-append, arith, ◌==◌, if◌then◌else◌, chars, IsUtf8, drop_trailing_whitespace, IsEndOf, opens, from_first, after_literal, from_delimiter, before_delimiter, StartsWithDelimiter, is_whitespace}
 use Rattle.std.specs.Str.{trim_end}
-use Rattle.std.proofs.lemmas.List.{drop_at, take-append-drop, append_cancel_right}
 use Rattle.std.proofs.lemmas.Str.{chars_from_encodes}
-use Rattle.litrs_lex.proofs.CharCuts.{cut_at, byte_len-all}
-use Rattle.litrs_prefix.proofs.Ends.{all as whole, end_of_end}
-use Rattle.litrs_prefix.proofs.Marks.{front_marks}
+use Rattle.litrs_prefix.proofs.Ends.{all as whole, bytes_spell, end_of_end}
 use Rattle.litrs_prefix.proofs.MeantEnds.{EndsAt, ends_at, next, either, opened_piece}
 
 -- the searched text ends with the text, and so does the found rest
@@ -15,11 +11,10 @@ found_end ds [] = ([], refl)
 found_end ds (c ∷ t) = either _ _ _ _ (whole (c ∷ t)) (next c t _ (found_end ds t))
 
 literal_end : (t : List ℕ) → IsEndOf t (after_literal t)
-literal_end t = go (opens t) refl
-  where
-    go : (v : Bool) → opens t ≡ v → IsEndOf t (if v then after_opened t else t)
-    go true e = let piece = opened_piece t e in (piece.first ∷ piece.piece, piece.spells)
-    go false e = ([], refl)
+literal_end t = elim (cases_Bool (opens t)) [
+  | inl is ↦ (let piece = opened_piece t is in rw is (piece.first ∷ piece.piece, piece.spells))
+  | inr is ↦ rw is (whole t)
+]
 
 pub delimiter_end : (ds t : List ℕ) → IsEndOf t (from_delimiter ds t)
 delimiter_end ds t = end_of_end t (after_literal t) _ (literal_end t) (found_end ds (after_literal t))
@@ -35,57 +30,25 @@ trailing [] = ([], refl)
 trailing (c ∷ t) = ((if is_whitespace c && (length (drop_trailing_whitespace t) == 0) then c ∷ t else (trailing t).0), grind (arith, trailing t))
 
 -- a text without its end
-pub before_end : (t x : List ℕ) → IsEndOf t x → take (length t - length x) t ++ x ≡ t
-before_end t x end =
-    let n : ℕ = length t - length x in
-    let size : length t ≡ length end.0 + length x = ap length (sym end.1) ∙ length-append end.0 x in
-    let place : length end.0 ≡ n = omega arith in
-    let left : drop n t ≡ x = ap (drop n) (sym end.1) ∙ drop_at end.0 x n place in
-    ap (λ (l : List ℕ). take n t ++ l) (sym left) ∙ take-append-drop n t
+before_end : (t x : List ℕ) → IsEndOf t x → take (length t - length x) t ++ x ≡ t
+before_end t x end = grind (arith, take_at end.0 x, length-append end.0 x)
 
 -- the text before a delimiter, and all that follows it
 pub before_front : (ds t : List ℕ) → (more : List ℕ) × (before_delimiter ds t ++ more ≡ t)
 before_front ds t =
     let x : List ℕ = from_delimiter ds t in
-    let front : List ℕ = take (length t - length x) t in
-    let white = trailing front in (
-      white.0 ++ x,
-      sym (append_assoc (drop_trailing_whitespace front) white.0 x)
-          ∙ (ap (λ (l : List ℕ). l ++ x) white.1 ∙ before_end t x (delimiter_end ds t)),
-    )
+    let white = trailing (take (length t - length x) t) in
+    (white.0 ++ x, grind (arith, append_assoc, before_end t x (delimiter_end ds t)))
 
 -- a text without the white space at its end, in bytes
 pub trimmed : (bs r : List ℕ) → IsUtf8 r → r ≡ trim_end bs → chars r ≡ drop_trailing_whitespace (chars bs)
 unfolding trim_end
 trimmed bs r u is = sym (chars_from_encodes (drop_trailing_whitespace (chars bs)) r u (sym is))
 
--- the part that the error of a front of the text after `start` bytes marks
-pub refused_marks : (bs front more : List ℕ) (start : ℕ) (e : MalformedPrefix) → IsUtf8 bs → IsCharBoundary bs start →
-    front ++ more ≡ chars (drop start bs) → IsRefusedUntil start front e → IsMarkedAt start bs e
-refused_marks bs front more start e u bound spells at = front_marks bs front more start e at.of_text u bound spells (sym at.len) at.char_span at.refused
-
--- a front of a text is not longer
-pub front_fits : (text front more : List ℕ) → IsUtf8 text → IsUtf8 front → chars front ++ more ≡ chars text → length front ≤ length text
-front_fits text front more u v is =
-    let within = (cut_at text (chars front) more u (sym is)).within in
-    let size = byte_len-all front v in
-    omega arith
-
--- the part before an end, by both
-pub before_is : (t x front : List ℕ) → front ++ x ≡ t → front ≡ take (length t - length x) t
-before_is t x front spells = append_cancel_right front (take (length t - length x) t) x (spells ∙ sym (before_end t x (front, spells)))
-
 -- the place of the delimiter, in bytes
-pub cut_before : (ds text rest : List ℕ) → IsUtf8 text → IsUtf8 rest → chars rest ≡ from_delimiter ds (chars text) → EndsAt text rest (delimiter_end ds (chars text)).0
-cut_before ds text rest u v from =
-    let end = delimiter_end ds (chars text) in
-    ends_at text rest end.0 u v (ap (λ (l : List ℕ). end.0 ++ l) from ∙ end.1)
-
--- the text that is parsed
-pub taken : (ds source text rest cut front : List ℕ) (start : ℕ) → IsUtf8 text → IsUtf8 rest → IsUtf8 front → text ≡ drop start source → chars rest ≡ from_delimiter ds (chars text) →
-    cut ≡ take (length text - length rest) text → front ≡ trim_end cut → chars front ≡ before_delimiter ds (chars (drop start source))
-taken ds source text rest cut front start u v w same from before trim =
-    let end = delimiter_end ds (chars text) in
-    trimmed cut front w trim
-    ∙ (ap drop_trailing_whitespace (ap chars before ∙ ((cut_before ds text rest u v from).before ∙ before_is (chars text) (from_delimiter ds (chars text)) end.0 end.1))
-    ∙ ap (λ (l : List ℕ). before_delimiter ds (chars l)) same)
+pub delimiter_at : (ds text after rest : List ℕ) → IsUtf8 text → IsUtf8 rest → after ≡ after_literal (chars text) → chars rest ≡ from_first ds after →
+    EndsAt text rest (take (length (chars text) - length (from_delimiter ds (chars text))) (chars text)) × IsEndOf text rest
+delimiter_at ds text after rest u v is from =
+    let front : List ℕ = take (length (chars text) - length (from_delimiter ds (chars text))) (chars text) in
+    let spells : front ++ chars rest ≡ chars text = rw (from, is) (before_end (chars text) _ (delimiter_end ds (chars text))) in
+    (ends_at text rest front u v spells, (_, bytes_spell text rest front u v spells))

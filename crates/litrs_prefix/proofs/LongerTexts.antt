@@ -1,6 +1,5 @@
 -- A literal at the front of a text, and of longer ones.
-use Rattle.std.proofs.Common.{◌≡◌, ℕ, true, List, ◌∷◌, ◌++◌, sym, ap, ◌∙◌, append_assoc, append-nil, arith}
-use Rattle.litrs_prefix.specs.Words.{Derivation, may_follow, LiteralsAreTheirPrefix, PrefixesStay}
+use Rattle.litrs_prefix.proofs.Words.{◌≡◌, ℕ, true, List, ◌∷◌, ◌++◌, append_assoc, append-nil, arith, Derivation, may_follow, LiteralsAreTheirPrefix, PrefixesStay}
 
 pub whole : LiteralsAreTheirPrefix
 whole t d h = record { front = t; spells = append-nil t; literal = h; follows = grind arith }
@@ -10,9 +9,4 @@ more_follows : (d : Derivation) (c : ℕ) (rest more : List ℕ) → may_follow 
 more_follows d c rest more h = grind arith
 
 pub stays : PrefixesStay
-stays t d c rest more h = record {
-  front = h.front;
-  spells = sym (append_assoc h.front (c ∷ rest) more) ∙ ap (λ (l : List ℕ). l ++ more) h.spells;
-  literal = h.literal;
-  follows = more_follows d c rest more h.follows;
-}
+stays t d c rest more h = grind (arith, more_follows, append_assoc)

@@ -1,58 +1,21 @@
 -- The bytes of the source can be cut at the places that an error at the front of a text marks.
-use Rattle.std.proofs.Common.{◌≡◌, ℕ, ◌+◌, ◌≤◌, List, ◌++◌, length, take, drop, Option, Some, None, IfSome, IsUtf8, inl, inr, refl, sym, ap, subst, ◌∙◌, length-drop, arith}
-use Rattle.litrs_prefix.specs.Words.{chars, IsCharBoundary, byte_len, literal_parse, IsMalformedOrOutOfMemory, IsMovedBy, IsMarkedAt, slice_index, option_map, unwrap_or, Refusal, char_span_of, refusal_of, shifted_span, ParseError, IsRefusedOrOutOfMemory, MalformedPrefix, prefix_span}
+use Rattle.litrs_prefix.proofs.Words.{◌≡◌, add_comm, ℕ, ◌+◌, ◌≤◌, List, ◌++◌, length, take, drop, Option, Some, None, IfSome, IsUtf8, inl, inr, refl, sym, ap, ◌∙◌, length-drop, arith, chars, IsCharBoundary, byte_len, literal_parse, IsMalformedOrOutOfMemory, IsMarkedAt, unwrap_or, Refusal, char_span_of, shifted_span, ParseError, IsRefusedOrOutOfMemory, MalformedPrefix, prefix_span, length-take-le, IsUtf8-drop, IsUtf8-take, IsCharBoundary-start, cut_at}
 use Rattle.std.specs.declared.ops.Range.{Range}
-use Rattle.std.proofs.lemmas.Bool.{cases_lt}
-use Rattle.std.proofs.lemmas.List.{get_or-take, length-take-le}
-use Rattle.std.proofs.lemmas.Str.{IsUtf8-drop, IsUtf8-take, IsCharBoundary-start, IsCharBoundary-from_rest}
+use Rattle.std.proofs.lemmas.List.{get_or-take}
+use Rattle.std.proofs.lemmas.Str.{IsCharBoundary-from_rest}
 use Rattle.litrs_base.specs.CharEnd.{PointsAtCharacters, IsCutBy}
 use Rattle.litrs_base.proofs.CharEnds.{points_cut}
-use Rattle.litrs_lex.proofs.CharCuts.{cut_at}
 use Rattle.litrs_prefix.proofs.Ends.{front_is}
 
--- a place of the front is a place of the text
-boundary_in : (bs : List ℕ) (n i : ℕ) → IsCharBoundary bs n → i ≤ n → IsCharBoundary (take n bs) i → IsCharBoundary bs i
-boundary_in bs n i end fits cut =
-    let size : length (take n bs) ≡ n = length-take-le n bs end.0 in
-    elim (cases_lt i n) [
-      | inl less ↦ (
-        omega (arith, end.0),
-        λ within high. (
-            let same : slice_index (take n bs) i ≡ slice_index bs i = get_or-take n bs i 0 less in
-            let h = cut.1 (omega (arith, size, less)) (omega (arith, same, high)) in
-            omega (arith, same, h)),
-      )
-      | inr more ↦ (let same : n ≡ i = omega (arith, more, fits) in subst (λ (k : ℕ). IsCharBoundary bs k) same end)
-    ]
-
 pub cut_in : (bs : List ℕ) (n : ℕ) (span : Range ℕ) → IsCharBoundary bs n → IsCutBy (take n bs) span → IsCutBy bs span
-cut_in bs n span end cut =
-    let size : length (take n bs) ≡ n = length-take-le n bs end.0 in
-    let within = cut.within in
-    let order = cut.in_order in
-    record {
-      start = boundary_in bs n span.start end (omega (arith, size, within, order)) cut.start;
-      end = boundary_in bs n span.end end (omega (arith, size, within)) cut.end;
-      in_order = order;
-      within = omega (arith, size, within, end.0);
-    }
+cut_in bs n span end cut = grind (arith, length-take-le, get_or-take)
 
 -- places of what follows `start` bytes
 place_after : (bs : List ℕ) (start i : ℕ) → start ≤ length bs → IsCharBoundary (drop start bs) i → IsCharBoundary bs (i + start)
-place_after bs start i fits cut =
-    let same : start + i ≡ i + start = omega arith in
-    subst (λ (k : ℕ). IsCharBoundary bs k) same (IsCharBoundary-from_rest bs start i fits cut)
+place_after bs start i fits cut = rw (add_comm i start) (IsCharBoundary-from_rest bs start i fits cut)
 
 cut_after : (bs : List ℕ) (start : ℕ) (span : Range ℕ) → start ≤ length bs → IsCutBy (drop start bs) span → IsCutBy bs (record { start = span.start + start; end = span.end + start })
-cut_after bs start span fits cut =
-    let within = cut.within in
-    let order = cut.in_order in
-    record {
-      start = place_after bs start span.start fits cut.start;
-      end = place_after bs start span.end fits cut.end;
-      in_order = omega (arith, order);
-      within = omega (arith, within, fits, length-drop start bs);
-    }
+cut_after bs start span fits cut = grind (arith, place_after, length-drop)
 
 -- a span in a front of what follows, moved; or the front, if there is no span
 span_cut : (bs front rest : List ℕ) (start : ℕ) (piece : Range ℕ) (o p : Option (Range ℕ)) → IsUtf8 bs → IsCharBoundary bs start → front ++ rest ≡ chars (drop start bs) →
@@ -62,48 +25,32 @@ span_cut bs front rest start piece (Some span) p utf8 bound spells whole same al
     let text : List ℕ = drop start bs in
     let after = IsUtf8-drop bs start utf8 bound in
     let cut = cut_at text front rest after (sym spells) in
-    let n : ℕ = byte_len front in
-    let is : chars (take n text) ≡ front = front_is text n front rest after cut.boundary cut.rest spells in
-    let points = subst (λ (t : List ℕ). PointsAtCharacters t span) (sym is) all in
-    let inside = points_cut (take n text) span (IsUtf8-take text n after cut.boundary) points in
-    rw same (cut_after bs start span bound.0 (cut_in text n span cut.boundary inside))
+    let is = front_is text (byte_len front) front rest after cut.boundary cut.rest spells in
+    let inside = points_cut (take (byte_len front) text) span (IsUtf8-take text (byte_len front) after cut.boundary) (rw is all) in
+    rw same (cut_after bs start span bound.0 (cut_in text (byte_len front) span cut.boundary inside))
 
 piece_cut : (bs front rest : List ℕ) (start : ℕ) (e : MalformedPrefix) → IsUtf8 bs → IsCharBoundary bs start → front ++ rest ≡ chars (drop start bs) → byte_len front ≡ e.len →
     IsCutBy bs (prefix_span start e)
 piece_cut bs front rest start e utf8 bound spells len =
-    let text : List ℕ = drop start bs in
-    let cut = cut_at text front rest (IsUtf8-drop bs start utf8 bound) (sym spells) in
-    let end = IsCharBoundary-from_rest bs start e.len bound.0 (subst (λ (n : ℕ). IsCharBoundary text n) len cut.boundary) in
-    record { start = bound; end = end; in_order = omega arith; within = end.0 }
+    let cut = cut_at (drop start bs) front rest (IsUtf8-drop bs start utf8 bound) (sym spells) in
+    grind (arith, IsCharBoundary-from_rest bs start (byte_len front) bound.0 cut.boundary)
+
+points : (t : List ℕ) (e : ParseError) → IsRefusedOrOutOfMemory literal_parse t e → IfSome (char_span_of e) (PointsAtCharacters t)
+points t e (inl is) = is.char_ends
+points t e (inr is) = (let none = ap (λ (r : Refusal). r.span) is.error in grind arith)
 
 -- the error of a front of what follows `start` bytes of the text
 pub front_marks : (bs front rest : List ℕ) (start : ℕ) (e : MalformedPrefix) (of_text : ParseError) → IsUtf8 bs → IsCharBoundary bs start → front ++ rest ≡ chars (drop start bs) → byte_len front ≡ e.len →
     char_span_of e.error ≡ shifted_span start (char_span_of of_text) → IsRefusedOrOutOfMemory literal_parse front of_text → IsMarkedAt start bs e
 front_marks bs front rest start e of_text utf8 bound spells len same refused =
-    let piece = piece_cut bs front rest start e utf8 bound spells len in
-    (piece, span_cut bs front rest start (prefix_span start e) (char_span_of of_text) (char_span_of e.error) utf8 bound spells piece same (points refused))
-  where
-    points : IsRefusedOrOutOfMemory literal_parse front of_text → IfSome (char_span_of of_text) (PointsAtCharacters front)
-    points (inl is) = is.char_ends
-    points (inr is) = subst (λ (s : Option (Range ℕ)). IfSome (option_map (λ (span : Range ℕ). record { start = span.start; end = of_text.char_end }) s) (PointsAtCharacters front)) (sym (ap (λ (r : Refusal). r.span) is.error)) tt
+    grind (arith, piece_cut bs front rest start e utf8 bound spells len, span_cut bs front rest start (prefix_span start e) (char_span_of of_text) (char_span_of e.error) utf8 bound spells, points front of_text refused)
 
 -- the error of what follows `start` bytes of the text
-pub moved_marks : (bs : List ℕ) (start : ℕ) (e : MalformedPrefix) → IsUtf8 bs → IsCharBoundary bs start → IsMovedBy start (chars (drop start bs)) e → IsMarkedAt start bs e
-moved_marks bs start e utf8 bound moved = elim moved.malformed [
-  | inl is ↦ front_marks bs is.front is.rest start e moved.of_text.error utf8 bound is.spells (is.len ∙ sym moved.len) moved.char_span (inl is.refused)
-  | inr is ↦ front_marks bs is.front is.rest start e moved.of_text.error utf8 bound is.spells (is.len ∙ sym moved.len) moved.char_span (inr is.refused)
-]
-
-not_moved : (o : Option (Range ℕ)) → o ≡ shifted_span 0 o
-not_moved o = grind arith
+pub moved_marks : (bs : List ℕ) (start : ℕ) (e f : MalformedPrefix) → IsUtf8 bs → IsCharBoundary bs start → IsMalformedOrOutOfMemory (chars (drop start bs)) f → e.len ≡ f.len →
+    char_span_of e.error ≡ shifted_span start (char_span_of f.error) → IsMarkedAt start bs e
+moved_marks bs start e f utf8 bound (inl is) len same = front_marks bs is.front is.rest start e f.error utf8 bound is.spells (is.len ∙ sym len) same (inl is.refused)
+moved_marks bs start e f utf8 bound (inr is) len same = front_marks bs is.front is.rest start e f.error utf8 bound is.spells (is.len ∙ sym len) same (inr is.refused)
 
 -- the error of the text
 pub malformed_marks : (bs : List ℕ) (e : MalformedPrefix) → IsUtf8 bs → IsMalformedOrOutOfMemory (chars bs) e → IsMarkedAt 0 bs e
-malformed_marks bs e utf8 is =
-    moved_marks bs 0 e utf8 (IsCharBoundary-start bs utf8) (record {
-      of_text = e;
-      malformed = is;
-      len = refl;
-      refusal = λ i. record { span = not_moved (refusal_of e.error).span i; kind = (refusal_of e.error).kind };
-      char_span = not_moved (char_span_of e.error);
-    })
+malformed_marks bs e utf8 is = moved_marks bs 0 e e utf8 (IsCharBoundary-start bs utf8) is refl (grind arith)

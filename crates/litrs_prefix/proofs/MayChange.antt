@@ -1,19 +1,18 @@
 -- Answers that more text changes, and those that stay.
-use Rattle.std.proofs.Common.{◌≡◌, ◌⊎◌, inl, inr, eqb, ltb, ℕ, Bool, true, false, ◌||◌, List, [], ◌∷◌, ◌++◌, length, length-append, refl, sym, ap, subst, ◌∙◌, append_assoc, append-nil, arith}
-use Rattle.litrs_prefix.specs.Words.{codes, is_ascii_digit, list_all, chars, IsUtf8, first_passes, is_empty, bool_text, is_bool, Derivation, a_bool, literal_parse, is_quote, PrefixGoesOn, MalformedStay, AnswerStays, AnswerChanges, OpensNever, OpensLater, is_open_prefix, is_open_front, is_quoted_line_feed, after_opened, first_name, after_name, after_hashes, begins_lifetime, opens_raw, opens_bytes, opens_c_string, opens, may_follow, HasPrefix, HasNoPrefix, pointwise, is_scalar, IsText, is_text, Begins, first_run}
+use Rattle.litrs_prefix.proofs.Words.{◌≡◌, ⊎_elim, is_xid_continue-ascii, ◌⊎◌, inl, inr, eqb, ltb, ℕ, true, false, ◌||◌, List, [], ◌∷◌, ◌++◌, length, length-append, refl, sym, ap, ◌∙◌, append_assoc, append-nil, arith, codes, list_all, chars, IsUtf8, is_empty, bool_text, is_bool, Derivation, a_bool, literal_parse, PrefixGoesOn, MalformedStay, AnswerStays, AnswerChanges, OpensNever, OpensLater, is_open_prefix, is_open_front, is_quoted_line_feed, after_opened, first_name, after_name, after_hashes, begins_lifetime, opens_bytes, opens_c_string, opens, may_follow, HasPrefix, HasNoPrefix, pointwise, IsText, is_text, Begins, first_run, and_left, cases_Bool, true≢false, false≢true, false_from_ne_true, nat_tests, append_cancel_left, is_xid_start-ascii, some_bool}
 use Rattle.litrs_base.proofs.Chars.{is_text-chars}
-use Rattle.std.proofs.lemmas.Bool.{and_parts, and_left, or_right, or_cases, cases_Bool, true≢false, false≢true, false_from_ne_true}
-use Rattle.std.proofs.lemmas.Bool.Decides.{nat_tests}
-use Rattle.std.proofs.lemmas.List.{append_cancel_left}
-use Rattle.std.proofs.lemmas.List.Folds.{list_all-append}
-use Rattle.unicode_ident.proofs.IdentLemmas.{is_xid_start-ascii}
-use Rattle.litrs_grammar.proofs.Laws.Literal.{is_text-is, some_bool}
+use Rattle.std.proofs.lemmas.Bool.{or_cases, or_parts}
+use Rattle.litrs_grammar.proofs.Laws.Float.{empty-true}
+use Rattle.litrs_grammar.proofs.Laws.Literal.{is_text-is}
 use Rattle.litrs_prefix.specs.MayChange.{Answer, none, literal, malformed, IsMalformedFront, IsAnswer}
-use Rattle.litrs_prefix.proofs.Names.{quote_stops}
+use Rattle.litrs_prefix.proofs.Names.{Opening, opening}
+use Rattle.litrs_prefix.proofs.Names.Opening.{digit, double, single, raw, bytes, c_string, word_true, word_false}
 use Rattle.litrs_prefix.proofs.LongerTexts.{whole, stays}
 use Rattle.litrs_prefix.proofs.Opened.{opened}
 use Rattle.litrs_prefix.proofs.MeantEnds.{letter_is_taken, opened_stays, raw_stays, lifetime_stays, name_kept, run_whole, x_goes_on, x_begins}
 use Rattle.litrs_prefix.proofs.Unique.{unique}
+use Rattle.litrs_prefix.proofs.MoreText.{goes_on_with, text_parts}
+use Rattle.litrs_prefix.proofs.Pieces.{malformed_of}
 
 -- a malformed literal
 
@@ -21,7 +20,7 @@ use Rattle.litrs_prefix.proofs.Unique.{unique}
 longer_front : (t : List ℕ) (c : ℕ) (m front : List ℕ) → after_opened (t ++ c ∷ m) ≡ [] → IsMalformedFront t front → IsMalformedFront (t ++ c ∷ m) front → ⊥
 longer_front t c m front taken is longer =
     let opened = ap length longer.meant.opened in
-    absurd (omega (arith, length-append {A = ℕ}, ap length is.spells, ap length longer.meant.longer, opened, ap length taken))
+    absurd (omega (arith, length-append {A = ℕ}, ap length is.spells, ap length longer.meant.longer, ap length taken))
 
 malformed_by : (t more : List ℕ) → opens t ≡ true → HasNoPrefix t → IsText more → ((front : List ℕ) → IsMalformedFront t front → IsMalformedFront (t ++ more) front → ⊥) → AnswerChanges t
 malformed_by t more h absent text differ = (more, text, go)
@@ -37,28 +36,21 @@ malformed_changes t c m h absent text taken = malformed_by t (c ∷ m) h absent 
 pub malformed_completes : (t : List ℕ) → opens t ≡ true → HasNoPrefix t → PrefixGoesOn t → AnswerChanges t
 malformed_completes t h absent more = malformed_by t more.more h absent more.is_text (λ front is longer. longer.none more.literal more.rest more.found)
 
-pub is_nothing : (l : List ℕ) → is_empty l ≡ true → l ≡ []
-is_nothing l h = grind arith
-
 -- all of the text is taken, and so is a letter after it
 pub malformed_reaches_end : (t : List ℕ) → opens t ≡ true → HasNoPrefix t → is_empty (after_opened t) ≡ true → AnswerChanges t
-malformed_reaches_end t h absent end = malformed_changes t 120 [] h absent refl (letter_is_taken t h (is_nothing (after_opened t) end))
+malformed_reaches_end t h absent end = malformed_changes t 120 [] h absent refl (letter_is_taken t h (empty-true _ end))
 
 -- a test of the bytes is one of the characters
 text_test : (w bs : List ℕ) → is_text w bs ≡ pointwise eqb bs w
-text_test [] [] = refl
-text_test [] (d ∷ bs) = refl
-text_test (c ∷ w) [] = refl
-text_test (c ∷ w) (d ∷ bs) = grind (arith, nat_tests, text_test w bs)
+text_test [] bs = grind arith
+text_test (c ∷ w) bs = grind (arith, nat_tests, text_test w)
 
 pub char_test : (w bs : List ℕ) → list_all (λ c. ltb c 128) w ≡ true → IsUtf8 bs → is_text w (chars bs) ≡ pointwise eqb bs w
 char_test w bs low u = is_text-chars w bs low u ∙ text_test w bs
 
 pub line_feed_test : (bs : List ℕ) → IsUtf8 bs → is_quoted_line_feed (chars bs) ≡ (pointwise eqb bs (39 ∷ 10 ∷ []) || pointwise eqb bs (98 ∷ 39 ∷ 10 ∷ []))
 line_feed_test bs u =
-    let a = char_test (39 ∷ 10 ∷ []) bs refl u in
-    let b = char_test (98 ∷ 39 ∷ 10 ∷ []) bs refl u in
-    λ i. a i || b i
+    λ i. char_test (39 ∷ 10 ∷ []) bs refl u i || char_test (98 ∷ 39 ∷ 10 ∷ []) bs refl u i
 
 -- texts that a `'` after the line feed makes longer
 pub malformed_line_feed : (t : List ℕ) → opens t ≡ true → HasNoPrefix t → is_quoted_line_feed t ≡ true → AnswerChanges t
@@ -67,78 +59,31 @@ malformed_line_feed t h absent is = malformed_changes t 39 [] h absent refl (eli
   | inr byte ↦ ap (λ (l : List ℕ). after_opened (l ++ 39 ∷ [])) (sym (is_text-is (codes "b'\n") t byte))
 ])
 
-malformed_longer : (t m front : List ℕ) → opens (t ++ m) ≡ true → after_opened (t ++ m) ≡ after_opened t ++ m → HasNoPrefix (t ++ m) →
-    IsMalformedFront t front → IsMalformedFront (t ++ m) front
-malformed_longer t m front h left absent is = record {
-  rest = is.rest ++ m;
-  spells = sym (append_assoc front is.rest m) ∙ ap (λ (l : List ℕ). l ++ m) is.spells;
-  opens = h;
-  none = absent;
-  meant = record {
-    piece = is.meant.piece;
-    more = is.meant.more;
-    opened = ap (λ (l : List ℕ). is.meant.piece ++ l) left ∙ (sym (append_assoc is.meant.piece (after_opened t) m) ∙ ap (λ (l : List ℕ). l ++ m) is.meant.opened);
-    longer = is.meant.longer;
-    shortest = is.meant.shortest;
-  };
-  invalid = is.invalid;
-}
-
 pub malformed_stays : (t : List ℕ) → opens t ≡ true → HasNoPrefix t → (PrefixGoesOn t → ⊥) → is_empty (after_opened t) ≡ false → is_quoted_line_feed t ≡ false → AnswerStays t
-malformed_stays t h absent ends some other = go
+malformed_stays t h absent ends some other none m text is = absurd (true≢false (sym h ∙ is))
+malformed_stays t h absent ends some other (literal d front) m text is = absurd (absent d is.0 is.2)
+malformed_stays t h absent ends some other (malformed front) m text is =
+    let longer = opened_stays t m h other some in
+    grind (arith, append_assoc, never)
   where
-    never : (m : List ℕ) → IsText m → HasNoPrefix (t ++ m)
-    never m text d rest found = ends (record {
-      unsettled = λ s. absent s.0 (s.1 ∷ s.2) s.3;
-      more = m;
-      is_text = text;
-      literal = d;
-      rest = rest;
-      found = found;
-    })
-
-    go : (answer : Answer) (m : List ℕ) → IsText m → IsAnswer t answer → IsAnswer (t ++ m) answer
-    go none m text is = absurd (true≢false (sym h ∙ is))
-    go (literal d front) m text is = absurd (absent d is.0 is.2)
-    go (malformed front) m text is = (let longer = opened_stays t m h other some in malformed_longer t m front longer.0 longer.1 (never m text) is)
+    never : HasNoPrefix (t ++ m)
+    never d rest found = ends (goes_on_with t m d rest (λ s. absent s.0 (s.1 ∷ s.2) s.3) text found)
 
 -- its length and its error
 pub malformed_stay : MalformedStay
 malformed_stay t more e stay text is =
-    let longer = stay (malformed is.front) more text (record {
-      rest = is.rest;
-      spells = is.spells;
-      opens = is.opens;
-      none = is.none;
-      meant = is.meant;
-      invalid = is.refused.none;
-    }) in
-    record {
-      front = is.front;
-      rest = longer.rest;
-      spells = longer.spells;
-      len = is.len;
-      some = is.some;
-      meant = longer.meant;
-      refused = is.refused;
-      opens = longer.opens;
-      none = longer.none;
-    }
+    malformed_of (t ++ more) is.front e (stay (malformed is.front) more text (grind arith)) is.len is.some is.refused
 
 -- a literal
 
-pub literal_stays : (t : List ℕ) (d : Derivation) (c : ℕ) (rest : List ℕ) → HasPrefix t d (c ∷ rest) → AnswerStays t
-literal_stays t d c rest at = go
-  where
-    go : (answer : Answer) (m : List ℕ) → IsText m → IsAnswer t answer → IsAnswer (t ++ m) answer
-    go none m text is = absurd (true≢false (sym (opened t d (c ∷ rest) at) ∙ is))
-    go (literal e front) m text is =
-        let same = unique t e d is.0 (c ∷ rest) is.2 at in (
-          is.0 ++ m,
-          sym (append_assoc front is.0 m) ∙ ap (λ (l : List ℕ). l ++ m) is.1,
-          subst (λ (l : List ℕ). HasPrefix (t ++ m) e (l ++ m)) (sym same.1) (stays t e c rest m (subst (λ (l : List ℕ). HasPrefix t e l) same.1 is.2)),
-        )
-    go (malformed front) m text is = absurd (is.none d (c ∷ rest) at)
+pub literal_stays : (t : List ℕ) (d : Derivation) (rest : List ℕ) → is_empty rest ≡ false → HasPrefix t d rest → AnswerStays t
+literal_stays t d [] some at answer m text is = absurd (true≢false some)
+literal_stays t d (c ∷ rest) some at none m text is = absurd (true≢false (sym (opened t d (c ∷ rest) at) ∙ is))
+literal_stays t d (c ∷ rest) some at (literal e front) m text is =
+    let same = unique t e d is.0 (c ∷ rest) is.2 at in
+    let longer = stays t e c rest m (rw same.1 at is.2) in
+    (is.0 ++ m, rw (← append_assoc front is.0 m, is.1) refl, rw same.1 longer)
+literal_stays t d (c ∷ rest) some at (malformed front) m text is = absurd (is.none d (c ∷ rest) at)
 
 -- no literal ends before a letter
 pub letter_follows_none : (d : Derivation) → may_follow d (120 ∷ []) ≡ false
@@ -151,9 +96,8 @@ literal_changes t d at = (120 ∷ [], refl, go)
     go none is longer = true≢false (sym (opened t d [] at) ∙ is)
     go (literal e front) is longer =
         let same = unique t e d is.0 [] is.2 at in
-        let all : front ≡ t = sym (append-nil front) ∙ (ap (λ (l : List ℕ). front ++ l) (sym same.1) ∙ is.1) in
-        let rest : longer.0 ≡ 120 ∷ [] = append_cancel_left t longer.0 (120 ∷ []) (ap (λ (l : List ℕ). l ++ longer.0) (sym all) ∙ longer.1) in
-        true≢false (sym longer.2.follows ∙ (ap (may_follow e) rest ∙ letter_follows_none e))
+        let rest = append_cancel_left t longer.0 (120 ∷ []) (rw (rw (same.1, append-nil) at is.1) at longer.1) in
+        true≢false (sym (rw rest at longer.2.follows) ∙ letter_follows_none e)
     go (malformed front) is longer = is.none d [] at
 
 -- no literal begins
@@ -167,12 +111,9 @@ none_changes t h later = (later.0, later.1, go)
     go (malformed front) is longer = true≢false (sym is.opens ∙ h)
 
 pub none_stays : (t : List ℕ) → opens t ≡ false → OpensNever t → AnswerStays t
-none_stays t h never = go
-  where
-    go : (answer : Answer) (m : List ℕ) → IsText m → IsAnswer t answer → IsAnswer (t ++ m) answer
-    go none m text is = never m text
-    go (literal d front) m text is = absurd (true≢false (sym (opened t d is.0 is.2) ∙ h))
-    go (malformed front) m text is = absurd (true≢false (sym is.opens ∙ h))
+none_stays t h never none m text is = never m text
+none_stays t h never (literal d front) m text is = absurd (true≢false (sym (opened t d is.0 is.2) ∙ h))
+none_stays t h never (malformed front) m text is = absurd (true≢false (sym is.opens ∙ h))
 
 pub begins_later : (t : List ℕ) → Begins literal_parse t → OpensLater t
 begins_later t b = (b.0, b.2, opened (t ++ b.0) b.1 [] (whole (t ++ b.0) b.1 b.3))
@@ -186,82 +127,47 @@ hashes_to (c ∷ t) m h = grind (arith, hashes_to t m)
 -- a `'` after the name makes it a char
 quoted_name : (t : List ℕ) → is_empty (after_name t) ≡ true → begins_lifetime (t ++ 39 ∷ []) ≡ false
 quoted_name [] h = and_left _ _ (is_xid_start-ascii 39 (omega arith))
-quoted_name (c ∷ t) h = grind (arith, run_whole t (39 ∷ []), quote_stops)
-
-raw_later : (t : List ℕ) → is_empty (after_hashes t) ≡ true → opens_raw (t ++ 34 ∷ []) ≡ true
-raw_later t h = ap (first_passes is_quote) (hashes_to t (34 ∷ []) h)
-
-bytes_later : (t : List ℕ) → is_open_prefix t ≡ true → opens_bytes (t ++ 34 ∷ []) ≡ true
-bytes_later t h = grind (arith, nat_tests, raw_later)
-
-c_later : (t : List ℕ) → is_open_prefix t ≡ true → opens_c_string (t ++ 34 ∷ []) ≡ true
-c_later t h = grind (arith, nat_tests, raw_later)
+quoted_name (c ∷ t) h = grind (arith, run_whole t (39 ∷ []), is_xid_continue-ascii)
 
 -- a quote of one of the two kinds opens it
 quotes_open : (c : ℕ) (t : List ℕ) → is_open_front (c ∷ t) ≡ true → (opens (c ∷ (t ++ 39 ∷ [])) ≡ true) ⊎ (opens (c ∷ (t ++ 34 ∷ [])) ≡ true)
-quotes_open c t h = grind (arith, nat_tests, quoted_name t, raw_later t, bytes_later t, c_later t)
+quotes_open c t h = grind (arith, nat_tests, quoted_name t, hashes_to)
 
 pub front_later : (t : List ℕ) → is_open_front t ≡ true → OpensLater t
 front_later [] h = absurd (false≢true h)
-front_later (c ∷ t) h = elim (quotes_open c t h) [
-  | inl single ↦ (39 ∷ [], refl, single)
-  | inr double ↦ (34 ∷ [], refl, double)
-]
+front_later (c ∷ t) h = ⊎_elim (λ is. (39 ∷ [], refl, is)) (λ is. (34 ∷ [], refl, is)) (quotes_open c t h)
 
 -- if neither, none begins later
 
 name_whole : (c : ℕ) (t m : List ℕ) → is_empty (after_name (c ∷ t)) ≡ true → first_name (c ∷ (t ++ m)) ≡ c ∷ (t ++ first_run m)
 name_whole c t m h = grind (arith, run_whole t m)
 
-bool_is_text : (b : Bool) → list_all is_scalar (bool_text b) ≡ true
-bool_is_text b = grind arith
-
 begins_bool : (t z : List ℕ) → is_bool (t ++ z) ≡ true → Begins literal_parse t
 begins_bool t z h =
     let bool = some_bool (t ++ z) h in
-    let text : list_all is_scalar (t ++ z) ≡ true = ap (list_all is_scalar) (sym bool.1) ∙ bool_is_text bool.0 in
-    (z, a_bool bool.0, (and_parts (list_all is_scalar t) (list_all is_scalar z) (sym (list_all-append is_scalar t z) ∙ text)).1, bool.1)
+    (z, a_bool bool.0, (text_parts t z (rw (← bool.1) (grind arith))).1, bool.1)
 
-bytes_opened : (t m : List ℕ) → is_open_prefix t ≡ false → opens_bytes (t ++ m) ≡ true → opens_bytes t ≡ true
-bytes_opened t m h g = grind (arith, raw_stays)
+prefix_stays : (t m : List ℕ) → is_open_prefix t ≡ false → (opens_bytes (t ++ m) ≡ opens_bytes t) × (opens_c_string (t ++ m) ≡ opens_c_string t)
+prefix_stays t m h = (grind (arith, raw_stays), grind (arith, raw_stays))
 
-c_opened : (t m : List ℕ) → is_open_prefix t ≡ false → opens_c_string (t ++ m) ≡ true → opens_c_string t ≡ true
-c_opened t m h g = grind (arith, raw_stays)
+-- a literal begins with the shorter text too, unless the name at the front becomes a bool
+opens_shorter : (c : ℕ) (t m : List ℕ) → Opening (c ∷ (t ++ m)) → is_open_front (c ∷ t) ≡ false →
+    (is_bool (first_name (c ∷ (t ++ m))) ≡ true → is_bool (first_name (c ∷ t)) ≡ true) → opens (c ∷ t) ≡ true
+opens_shorter c t m (digit h) front bool = rw h refl
+opens_shorter c t m double front bool = refl
+opens_shorter c t m (single h) front bool =
+    let none = or_parts (is_empty (after_name t)) false (or_parts (is_empty (after_name t) || false) false front).0 in
+    rw (sym (lifetime_stays t m none.0) ∙ h) refl
+opens_shorter c t m (raw h) front bool = rw (sym (raw_stays t m (or_parts (is_empty (after_hashes t)) false front).0) ∙ h) refl
+opens_shorter c t m (bytes h) front bool = rw (sym (prefix_stays t m front).0 ∙ h) refl
+opens_shorter c t m (c_string h) front bool = rw (sym (prefix_stays t m front).1 ∙ h) refl
+opens_shorter c t m (word_true h) front bool = bool h
+opens_shorter c t m (word_false h) front bool = bool h
 
-single_shorter : (c : ℕ) (t m : List ℕ) → is_open_front (c ∷ t) ≡ false → c ≡ 39 → begins_lifetime (t ++ m) ≡ false → opens (c ∷ t) ≡ true
-single_shorter c t m front is h = grind (arith, nat_tests, lifetime_stays t m)
-
-raw_shorter : (c : ℕ) (t m : List ℕ) → is_open_front (c ∷ t) ≡ false → c ≡ 114 → opens_raw (t ++ m) ≡ true → opens (c ∷ t) ≡ true
-raw_shorter c t m front is h = grind (arith, nat_tests, raw_stays t m)
-
-bytes_shorter : (c : ℕ) (t m : List ℕ) → is_open_front (c ∷ t) ≡ false → c ≡ 98 → opens_bytes (t ++ m) ≡ true → opens (c ∷ t) ≡ true
-bytes_shorter c t m front is h = grind (arith, nat_tests, bytes_opened t m)
-
-c_shorter : (c : ℕ) (t m : List ℕ) → is_open_front (c ∷ t) ≡ false → c ≡ 99 → opens_c_string (t ++ m) ≡ true → opens (c ∷ t) ≡ true
-c_shorter c t m front is h = grind (arith, nat_tests, c_opened t m)
-
--- the ways in which a literal begins
-abbrev Ways : ℕ → List ℕ → Type 0
-Ways c t =
-    (is_ascii_digit c ≡ true) ⊎ ((c ≡ 34) ⊎ (((c ≡ 39) × (begins_lifetime t ≡ false)) ⊎ (((c ≡ 114) × (opens_raw t ≡ true))
-    ⊎ (((c ≡ 98) × (opens_bytes t ≡ true)) ⊎ (((c ≡ 99) × (opens_c_string t ≡ true)) ⊎ (is_bool (first_name (c ∷ t)) ≡ true))))))
-
-ways : (c : ℕ) (t : List ℕ) → opens (c ∷ t) ≡ true → Ways c t
-ways c t h = grind (arith, nat_tests)
-
--- unless the name at the front becomes a bool
 pub opens_unless_bool : (c : ℕ) (t m : List ℕ) → opens (c ∷ t) ≡ false → is_open_front (c ∷ t) ≡ false →
     (is_bool (first_name (c ∷ (t ++ m))) ≡ true → is_bool (first_name (c ∷ t)) ≡ true) → opens (c ∷ (t ++ m)) ≡ false
-opens_unless_bool c t m h front bool = false_from_ne_true (opens (c ∷ (t ++ m))) (λ longer. true≢false (sym (shorter (ways c (t ++ m) longer)) ∙ h))
-  where
-    shorter : Ways c (t ++ m) → opens (c ∷ t) ≡ true
-    shorter (inl is) = rw is refl
-    shorter (inr (inl is)) = rw is refl
-    shorter (inr (inr (inl is))) = single_shorter c t m front is.0 is.1
-    shorter (inr (inr (inr (inl is)))) = raw_shorter c t m front is.0 is.1
-    shorter (inr (inr (inr (inr (inl is))))) = bytes_shorter c t m front is.0 is.1
-    shorter (inr (inr (inr (inr (inr (inl is)))))) = c_shorter c t m front is.0 is.1
-    shorter (inr (inr (inr (inr (inr (inr is)))))) = or_right _ _ (bool is)
+opens_unless_bool c t m h front bool =
+    false_from_ne_true _ (λ longer. true≢false (sym (opens_shorter c t m (opening _ longer) front bool) ∙ h))
 
 pub opens_never : (t : List ℕ) → opens t ≡ false → (Begins literal_parse t → ⊥) → is_open_front t ≡ false → OpensNever t
 opens_never [] h absent front m text = absurd (absent (bool_text true, a_bool true, refl, refl))

@@ -1,10 +1,5 @@
 -- Names at the front of a text.
-use Rattle.std.proofs.Common.{◌≡◌, ◌⊎◌, ℕ, Bool, true, false, not, List, [], ◌∷◌, ◌++◌, refl, sym, ap, ◌∙◌, arith, if◌then◌else◌}
-use Rattle.litrs_prefix.specs.Words.{is_ascii_digit, list_all, is_xid_continue, first_passes, bool_text, is_bool, starts_identifier, first_name, after_run, after_name, begins_lifetime, opens_raw, opens_bytes, opens_c_string, opens, ends_suffix, ends_bool, is_suffix, first_run}
-use Rattle.std.proofs.lemmas.Bool.{false≢true}
-use Rattle.std.proofs.lemmas.Bool.Decides.{nat_tests}
-use Rattle.std.proofs.lemmas.List.{append_cancel_right}
-use Rattle.unicode_ident.proofs.IdentLemmas.{is_xid_start-ascii, is_xid_continue-ascii}
+use Rattle.litrs_prefix.proofs.Words.{◌≡◌, ◌⊎◌, ℕ, Bool, true, false, not, List, [], ◌∷◌, ◌++◌, refl, arith, if◌then◌else◌, is_ascii_digit, list_all, is_xid_continue, first_passes, bool_text, is_bool, first_name, after_run, after_name, begins_lifetime, opens_raw, opens_bytes, opens_c_string, opens, ends_suffix, ends_bool, is_suffix, first_run, nat_tests, append_cancel_right, is_xid_start-ascii, is_xid_continue-ascii}
 use Rattle.litrs_prefix.specs.Laws.{SuffixesAreUnique}
 
 pub run_and_rest : (t : List ℕ) → first_run t ++ after_run t ≡ t
@@ -24,18 +19,14 @@ run_after (c ∷ s) r h e = grind (arith, run_after s r)
 
 pub name_after : (s r : List ℕ) → is_suffix s ≡ true → ends_suffix s r ≡ true → after_name (s ++ r) ≡ r
 unfolding is_suffix
-name_after [] r h e = grind arith
-name_after (c ∷ s) r h e = grind (arith, run_after s r)
+name_after s r h e = grind (arith, run_after)
 
 -- the name of a suffix is the suffix
 name_first : (s r : List ℕ) → is_suffix s ≡ true → ends_suffix s r ≡ true → first_name (s ++ r) ≡ s
-name_first s r h e =
-    let t = s ++ r in
-    append_cancel_right (first_name t) s r (ap (λ (l : List ℕ). first_name t ++ l) (sym (name_after s r h e)) ∙ name_and_rest t)
+name_first s r h e = append_cancel_right (first_name (s ++ r)) s r (rw (name_after s r h e) at (name_and_rest (s ++ r)))
 
 pub same_suffix : SuffixesAreUnique
-same_suffix s x r y h g e f same =
-    (sym (name_first s r h e) ∙ (ap first_name same ∙ name_first x y g f), sym (name_after s r h e) ∙ (ap after_name same ∙ name_after x y g f))
+same_suffix s x r y h g e f same = (grind (arith, name_first s r h e, name_first x y g f), grind (arith, name_after s r h e, name_after x y g f))
 
 -- bools
 
@@ -45,13 +36,6 @@ bool_after b r h = grind (arith, is_xid_start-ascii, is_xid_continue-ascii)
 -- the name is the bool at the front if no more follows
 pub name_is_bool : (b : Bool) (r : List ℕ) → not (first_passes is_xid_continue r) ≡ is_bool (first_name (bool_text b ++ r))
 name_is_bool b r = grind (arith, is_xid_start-ascii, is_xid_continue-ascii)
-
--- characters that do not continue or begin a name
-pub quote_stops : is_xid_continue 39 ≡ false
-quote_stops = is_xid_continue-ascii 39 (omega arith)
-
-pub backslash_stops : starts_identifier 92 ≡ false
-backslash_stops = is_xid_start-ascii 92 (omega arith)
 
 -- how a literal begins at the front of a text
 pub data Opening : List ℕ → Type 0 where
@@ -68,5 +52,4 @@ pub first_of_bool : (v : Bool) (c : ℕ) (l : List ℕ) → is_bool (if v then c
 first_of_bool v c l h = grind (arith, nat_tests)
 
 pub opening : (t : List ℕ) → opens t ≡ true → Opening t
-opening [] h = absurd (false≢true h)
-opening (c ∷ t) h = grind (arith, nat_tests, digit, double, single, raw, bytes, c_string, word_true, word_false, first_of_bool)
+opening t h = grind (arith, nat_tests, digit, double, single, raw, bytes, c_string, word_true, word_false, first_of_bool)

@@ -1,54 +1,32 @@
 -- Names at the front of a text: their ASCII characters are passed by their bytes.
-use Rattle.std.proofs.Common.{◌≡◌, ℕ, ◌<◌, Bool, true, false, List, [], ◌∷◌, ◌++◌, length, drop, refl, sym, ap, subst, ◌∙◌, arith, if◌then◌else◌}
-use Rattle.litrs_prefix.specs.Words.{nat_le, list_all, prefix_len, chars, IsUtf8, IsCharBoundary, is_xid_continue, begins_with, first_passes, bool_text, is_bool, after_run, after_name, first_name, ltb}
-use Rattle.std.proofs.lemmas.Bool.{true≢false, false_from_ne_true}
-use Rattle.std.proofs.lemmas.Bool.Decides.{nat_tests}
-use Rattle.std.proofs.lemmas.Str.{IsCharBoundary-from_drop, chars-nil}
-use Rattle.unicode_ident.proofs.IdentLemmas.{is_xid_continue-ascii}
-use Rattle.litrs_base.proofs.Begins.{begins_with-split, begins_with-append}
-use Rattle.litrs_base.proofs.Chars.{OnlyAscii, chars_ascii, ascii_from_test, begins_with-chars, begins_front, passing_front, prefix_len-chars}
-use Rattle.litrs_base.proofs.ListTests.{if_false}
-use Rattle.litrs_grammar.proofs.Laws.Integer.{first_passes-rest}
-use Rattle.litrs_grammar.proofs.Laws.Literal.{some_bool}
-use Rattle.litrs_lex.proofs.SuffixBytes.{is_word, words_are_ascii}
+use Rattle.litrs_prefix.proofs.Words.{◌≡◌, ℕ, Bool, true, false, List, [], ◌∷◌, ◌++◌, length, drop, refl, ◌∙◌, arith, if◌then◌else◌, nat_le, list_all, prefix_len, chars, IsUtf8, IsCharBoundary, is_xid_continue, begins_with, first_passes, bool_text, is_bool, after_run, after_name, first_name, ltb, false_from_ne_true, nat_tests, IsCharBoundary-from_drop, chars-nil, is_xid_continue-ascii, begins_with-split, begins_with-append, OnlyAscii, chars_ascii, begins_with-chars, begins_front, prefix_len-chars, first_passes-rest, some_bool, is_word, words_are_ascii}
+use Rattle.litrs_base.proofs.Chars.{ascii_from_test, passing_front}
 use Rattle.litrs_prefix.proofs.Names.{name_and_rest}
 
 pub drop_passed : (p : ℕ → Bool) (c : ℕ) (t : List ℕ) → drop (prefix_len p (c ∷ t)) (c ∷ t) ≡ (if p c then drop (prefix_len p t) t else (c ∷ t))
 drop_passed p c t = grind arith
 
-passed_step : (p : ℕ → Bool) (c : ℕ) (t : List ℕ) → (p c ≡ true → is_xid_continue c ≡ true) → after_run t ≡ after_run (drop (prefix_len p t) t) →
-    after_run (c ∷ t) ≡ after_run (if p c then drop (prefix_len p t) t else (c ∷ t))
-passed_step p c t goes rest = grind arith
-
 pub run_past : (p : ℕ → Bool) → ((c : ℕ) → p c ≡ true → is_xid_continue c ≡ true) → (t : List ℕ) → after_run t ≡ after_run (drop (prefix_len p t) t)
 run_past p goes [] = refl
-run_past p goes (c ∷ t) = passed_step p c t (goes c) (run_past p goes t) ∙ ap after_run (sym (drop_passed p c t))
+run_past p goes (c ∷ t) = grind (arith, drop_passed, goes c, run_past p goes t)
 
 -- the characters at the front of a text that pass a test of ASCII characters, in bytes
 pub ascii_front : (p : ℕ → Bool) → OnlyAscii p → (bs : List ℕ) → IsUtf8 bs → IsCharBoundary bs (prefix_len p bs) × (chars (drop (prefix_len p bs) bs) ≡ drop (prefix_len p (chars bs)) (chars bs))
 ascii_front p only bs u =
-    let f = passing_front p bs only u in
-    let same : prefix_len p (chars bs) ≡ prefix_len p bs = prefix_len-chars p bs only u in
-    (IsCharBoundary-from_drop bs (prefix_len p bs) f.within f.utf8, sym f.rest ∙ ap (λ (n : ℕ). drop n (chars bs)) (sym same))
+    grind (arith, passing_front p bs only u, prefix_len-chars p bs only u, IsCharBoundary-from_drop)
 
 -- the place at which the text is cut after the ASCII characters
 pub name_cut : (bs : List ℕ) (n : ℕ) → IsUtf8 bs → n ≡ prefix_len is_word bs → IsCharBoundary bs n × (after_run (chars (drop n bs)) ≡ after_run (chars bs))
 name_cut bs n u is =
-    let cut = ascii_front is_word words_are_ascii bs u in
     let goes = λ (c : ℕ) (h : is_word c ≡ true). is_xid_continue-ascii c (ascii_from_test is_word c words_are_ascii h) ∙ h in
-    subst (λ (k : ℕ). IsCharBoundary bs k × (after_run (chars (drop k bs)) ≡ after_run (chars bs))) (sym is) (cut.0, ap after_run cut.1 ∙ sym (run_past is_word goes (chars bs)))
+    grind (arith, ascii_front is_word words_are_ascii bs u, run_past is_word goes (chars bs))
 
 -- no more characters pass before an ASCII character that does not
 ends_at : (bs : List ℕ) → first_passes is_word bs ≡ false → first_passes (nat_le 128) bs ≡ false → after_run (chars bs) ≡ chars bs
-ends_at [] a b = ap after_run chars-nil ∙ sym chars-nil
-ends_at (c ∷ bs) a b =
-    let low : c < 128 = grind (arith, nat_tests) in
-    ap after_run (chars_ascii c bs low) ∙ (if_false (is_xid_continue c) (after_run (chars bs)) (c ∷ chars bs) (is_xid_continue-ascii c low ∙ a) ∙ sym (chars_ascii c bs low))
+ends_at bs a b = grind (arith, nat_tests, chars_ascii, is_xid_continue-ascii, chars-nil)
 
 pub name_ends : (bs rest : List ℕ) (n : ℕ) → IsUtf8 bs → n ≡ prefix_len is_word bs → rest ≡ drop n bs → first_passes (nat_le 128) rest ≡ false → chars rest ≡ after_run (chars bs)
-name_ends bs rest n u is back narrow =
-    let stops : first_passes is_word rest ≡ false = ap (first_passes is_word) (back ∙ ap (λ (k : ℕ). drop k bs) is) ∙ first_passes-rest is_word bs in
-    sym (ends_at rest stops narrow) ∙ (ap (λ (l : List ℕ). after_run (chars l)) back ∙ (name_cut bs n u is).1)
+name_ends bs rest n u is back narrow = grind (arith, ends_at rest, first_passes-rest is_word bs, name_cut bs n u is)
 
 -- bools, by their first bytes
 
@@ -58,10 +36,7 @@ bool_low b = grind arith
 -- a text after an ASCII word at its front
 pub front_cut : (word bs : List ℕ) (n : ℕ) → list_all (λ c. ltb c 128) word ≡ true → IsUtf8 bs → begins_with word bs ≡ true → n ≡ length word → IsCharBoundary bs n × (word ++ chars (drop n bs) ≡ chars bs)
 front_cut word bs n low u begins is =
-    let f = begins_front word bs low begins u in
-    let spells : word ++ chars (drop (length word) bs) ≡ chars bs =
-    ap (λ (l : List ℕ). word ++ l) (sym f.rest) ∙ begins_with-split word (chars bs) (begins_with-chars word bs low u ∙ begins) in
-    subst (λ (k : ℕ). IsCharBoundary bs k × (word ++ chars (drop k bs) ≡ chars bs)) (sym is) (IsCharBoundary-from_drop bs (length word) f.within f.utf8, spells)
+    grind (arith, begins_front word bs low begins u, begins_with-split word (chars bs), begins_with-chars word bs low u, IsCharBoundary-from_drop bs (length word))
 
 pub bool_front : (bs : List ℕ) (b : Bool) (n : ℕ) → IsUtf8 bs → begins_with (bool_text b) bs ≡ true → n ≡ length (bool_text b) → IsCharBoundary bs n × (bool_text b ++ chars (drop n bs) ≡ chars bs)
 bool_front bs b n = front_cut (bool_text b) bs n (bool_low b)
@@ -70,5 +45,5 @@ bool_front bs b n = front_cut (bool_text b) bs n (bool_low b)
 pub no_bool_name : (bs : List ℕ) → IsUtf8 bs → ((b : Bool) → begins_with (bool_text b) bs ≡ false) → is_bool (first_name (chars bs)) ≡ false
 no_bool_name bs u none = false_from_ne_true (is_bool (first_name (chars bs))) (λ is.
     let b = some_bool (first_name (chars bs)) is in
-    let spells : bool_text b.0 ++ after_name (chars bs) ≡ chars bs = ap (λ (l : List ℕ). l ++ after_name (chars bs)) b.1 ∙ name_and_rest (chars bs) in
-    true≢false (sym (begins_with-append (bool_text b.0) (after_name (chars bs))) ∙ (ap (begins_with (bool_text b.0)) spells ∙ (begins_with-chars (bool_text b.0) bs (bool_low b.0) u ∙ none b.0))))
+    let begins = begins_with-append (bool_text b.0) (after_name (chars bs)) in
+    grind (arith, name_and_rest (chars bs), begins_with-chars (bool_text b.0) bs (bool_low b.0) u, none b.0))

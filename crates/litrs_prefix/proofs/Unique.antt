@@ -1,10 +1,6 @@
 -- A text has at most one literal at its front.
-use Rattle.std.proofs.Common.{◌≡◌, ◌⊎◌, inl, inr, ℕ, Bool, true, false, List, [], ◌∷◌, ◌++◌, refl, sym, ap, subst, ◌∙◌, arith, if◌then◌else◌}
-use Rattle.litrs_prefix.specs.Words.{is_ascii_digit, first_passes, bool_text, is_bool, IntegerParts, Derivation, a_bool, an_integer, a_float, IsLiteral, begins_float, ends_suffix, ends_bool, HasPrefix, PrefixesAreUnique, InvalidLiteral, Refusal, without_span, FloatParts, literal_kind, bool_literal, integer_literal, float_literal, refused_as, parsed_as, dispatch}
-use Rattle.std.proofs.lemmas.Bool.{and_parts, true≢false}
-use Rattle.std.proofs.lemmas.List.{append_cancel_right}
-use Rattle.litrs_grammar.proofs.Laws.Integer.{starts_with_digit, first_passes-append}
-use Rattle.litrs_grammar.proofs.Laws.Literal.{dispatch_literal, is_bool-digit, literals_are_unique}
+use Rattle.litrs_prefix.proofs.Words.{◌≡◌, true≢false, ◌⊎◌, inl, inr, ℕ, Bool, true, false, List, [], ◌∷◌, ◌++◌, refl, sym, ap, subst, ◌∙◌, arith, if◌then◌else◌, is_ascii_digit, first_passes, bool_text, is_bool, IntegerParts, Derivation, a_bool, an_integer, a_float, IsLiteral, begins_float, ends_suffix, ends_bool, HasPrefix, PrefixesAreUnique, InvalidLiteral, Refusal, without_span, FloatParts, literal_kind, bool_literal, integer_literal, float_literal, refused_as, parsed_as, dispatch, and_parts, append_cancel_right, starts_with_digit, first_passes-append, dispatch_literal, literals_are_unique}
+use Rattle.litrs_grammar.proofs.Laws.Literal.{is_bool-digit}
 use Rattle.litrs_prefix.proofs.Numbers.{same_integer, has_mark, integer_mark, float_mark}
 use Rattle.litrs_prefix.proofs.Opened.{only_rest}
 
@@ -24,10 +20,8 @@ number_kind v d h = grind arith
 pub number_of : (s r : List ℕ) (d : Derivation) → IsLiteral s d → first_passes is_ascii_digit (s ++ r) ≡ true → IsNumber d
 unfolding dispatch
 number_of [] r d h digit = absurd (no_literal d h)
-number_of (c ∷ s) r d h digit = number_kind (begins_float (c ∷ s)) d (sym (dispatch_literal (c ∷ s) d h) ∙ row)
-  where
-    row : dispatch (c ∷ s) ≡ (if begins_float (c ∷ s) then parsed_as float_literal else parsed_as integer_literal)
-    row = rw (is_bool-digit (c ∷ s) digit, digit) refl
+number_of (c ∷ s) r d h digit =
+    number_kind (begins_float (c ∷ s)) d (sym (dispatch_literal (c ∷ s) d h) ∙ rw (is_bool-digit (c ∷ s) digit, digit) refl)
 
 bool_kind : (v : Bool) (e : Refusal) (d : Derivation) → parsed_as (literal_kind d) ≡ (if v then parsed_as bool_literal else refused_as e) → (b : Bool) × (d ≡ a_bool b)
 bool_kind v e d h = grind arith
@@ -43,10 +37,7 @@ bool_of false (c ∷ s) r x d h is =
 
 pub at_bool : (P : Type 0) (t r x : List ℕ) (d : Derivation) (v : Bool) → HasPrefix t d r → bool_text v ++ x ≡ t →
     ((b : Bool) → bool_text b ++ r ≡ t → ends_bool r ≡ true → P) → P
-at_bool P t r x d v at is found =
-    let bool = bool_of v at.front r x d at.literal (at.spells ∙ sym is) in
-    let here : HasPrefix t (a_bool bool.0) r = subst (λ (e : Derivation). HasPrefix t e r) bool.1 at in
-    found bool.0 (ap (λ (l : List ℕ). l ++ r) here.literal ∙ here.spells) here.follows
+at_bool P t r x d v at is found = grind (arith, bool_of)
 
 -- an integer without a suffix may end before what opens there does
 bare_rest : (t r u : List ℕ) (x : IntegerParts) (e : Derivation) → HasPrefix t (an_integer x) r → HasPrefix t e u → IsNumber e → r ≡ u
@@ -63,16 +54,16 @@ bare_rest t r u x e h g (inr (y, is)) =
 
 bare_same : (t r u : List ℕ) (x : IntegerParts) (d e : Derivation) → d ≡ an_integer x → HasPrefix t d r → HasPrefix t e u → r ≡ u
 bare_same t r u x d e is h g =
-    let lit : HasPrefix t (an_integer x) r = subst (λ (a : Derivation). HasPrefix t a r) is h in
+    let lit : HasPrefix t (an_integer x) r = rw is at h in
     let digit = first_passes-append is_ascii_digit lit.front r (starts_with_digit lit.front x lit.literal) in
-    bare_rest t r u x e lit g (number_of g.front u e g.literal (ap (first_passes is_ascii_digit) (g.spells ∙ sym lit.spells) ∙ digit))
+    bare_rest t r u x e lit g (number_of g.front u e g.literal (rw (g.spells, ← lit.spells) digit))
 
 same_rest : (t r u : List ℕ) (d e : Derivation) → HasPrefix t d r → HasPrefix t e u → r ≡ u
 same_rest t r u d e h g = elim (only_rest t d r h) [
   | inr (x, is, bare) ↦ bare_same t r u x d e is h g
-  | inl here ↦ elim (only_rest t e u g) [
-    | inl there ↦ sym here ∙ there
-    | inr (x, is, bare) ↦ sym (bare_same t u r x e d is g h)
+  | inl here ↦ sym here ∙ elim (only_rest t e u g) [
+    | inl there ↦ there
+    | inr (x, is, bare) ↦ here ∙ sym (bare_same t u r x e d is g h)
   ]
 ]
 
@@ -80,5 +71,5 @@ same_rest t r u d e h g = elim (only_rest t d r h) [
 pub unique : PrefixesAreUnique
 unique t d e r u h g =
     let rest = same_rest t r u d e h g in
-    let front : g.front ≡ h.front = append_cancel_right g.front h.front r (ap (λ (l : List ℕ). g.front ++ l) rest ∙ (g.spells ∙ sym h.spells)) in
+    let front = append_cancel_right g.front h.front r (rw (← rest) at g.spells ∙ sym h.spells) in
     (literals_are_unique h.front d e h.literal (subst (λ (l : List ℕ). IsLiteral l e) front g.literal), rest)

@@ -135,10 +135,7 @@ fn front_len(text: &str) -> usize
     requires { IsTrue (opens (chars text.now)) }
     ensures { IsLiteralLen text.now result ⊎ IsMalformedLen text.now result }
 {
-    match opened_extent(text) {
-        Ok(len) => len,
-        Err(len) => len,
-    }
+    opened_extent(text).unwrap_or_else(|len| len)
 }
 
 /// Returns the end of the character that begins at `start`, or the end of `text`.

@@ -1,6 +1,6 @@
 //! The texts to which more text may give a literal, or another answer of `parse_prefix`.
 ghost use Rattle.std.specs.Prelude.{◌≡◌, ◌↔◌};
-ghost use Rattle.litrs_prefix.specs.Words.{IsTrue, IsFalse, chars, AnswerStays, AnswerChanges, OpensNever, OpensLater, is_open_prefix, is_open_front, is_quoted_line_feed, opens, IsIntegerAndPeriod, PrefixGoesOn};
+ghost use Rattle.litrs_prefix.specs.Words.{IsTrue, IsFalse, chars, AnswerStays, AnswerChanges, is_open_prefix, is_open_front, is_quoted_line_feed, IsIntegerAndPeriod, PrefixGoesOn};
 
 use crate::extent::prefix_len;
 use crate::malformed::after_opened;
@@ -21,23 +21,12 @@ pub fn prefix_may_change(text: &str) -> bool
     ensures changes { IsTrue result → AnswerChanges (chars text.now) }
 {
     if !opens(text) {
-        return may_open(text);
+        return goes_on(text) || is_open_front(text);
     }
-    match prefix_len(text) {
-        Some(len) => len == text.len(),
-        None => {
-            prefix_goes_on(text) || (is_empty(after_opened(text)) || is_quoted_line_feed(text))
-        }
+    if let Some(len) = prefix_len(text) {
+        return len == text.len();
     }
-}
-
-/// Returns `true` if a literal begins at the front of some longer text.
-fn may_open(text: &str) -> bool
-    requires { IsFalse (opens (chars text.now)) }
-    ensures never { IsFalse result → OpensNever (chars text.now) }
-    ensures later { IsTrue result → OpensLater (chars text.now) }
-{
-    goes_on(text) || is_open_front(text)
+    prefix_goes_on(text) || (is_empty(after_opened(text)) || is_quoted_line_feed(text))
 }
 
 /// Returns `true` if `text` is a lifetime, or `r`, `b`, `br`, `c` or `cr` with any hashes after an
@@ -46,12 +35,10 @@ pub fn is_open_front(text: &str) -> bool
     ensures { result ≡ is_open_front (chars text.now) }
 {
     match split_first_char(text) {
-        Some((c, rest)) => {
-            (c == '\'' && is_empty(after_name(rest)))
-                || (c == 'r' && is_empty(after_hashes(rest)))
-                || ((c == 'b' || c == 'c') && is_open_prefix(rest))
-        }
-        None => false,
+        Some(('\'', rest)) => is_empty(after_name(rest)),
+        Some(('r', rest)) => is_empty(after_hashes(rest)),
+        Some(('b' | 'c', rest)) => is_open_prefix(rest),
+        _ => false,
     }
 }
 
@@ -66,6 +53,7 @@ fn is_open_prefix(text: &str) -> bool
 }
 
 /// Returns `true` if `text` is `'` or `b'`, and a line feed.
+#[tactic(auto, using(crate::proofs::MayChange::line_feed_test))]
 fn is_quoted_line_feed(text: &str) -> bool
     ensures { result ≡ is_quoted_line_feed (chars text.now) }
 {

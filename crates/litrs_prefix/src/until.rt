@@ -1,6 +1,6 @@
 //! The literal before a delimiter.
-ghost use Rattle.std.specs.Prelude.{◌≡◌};
-ghost use Rattle.litrs_prefix.specs.Words.{drop, IfOk, IfErr, chars, IsCharBoundary, IsLiteral, literal_raw, derivation, IsEndOf, IsMarkedAt, is_delimiter, from_first, from_delimiter, before_delimiter, StartsWithDelimiter, IsRefusedUntil};
+ghost use Rattle.std.specs.Prelude.{◌≡◌, ◌≤◌};
+ghost use Rattle.litrs_prefix.specs.Words.{drop, length, IfOk, IfErr, chars, IsUtf8, IsCharBoundary, IsLiteral, literal_raw, derivation, IsEndOf, IsMarkedAt, is_delimiter, from_first, after_literal, from_delimiter, before_delimiter, StartsWithDelimiter, IsRefusedUntil};
 
 use crate::malformed::after_opened;
 use crate::opening::opens;
@@ -47,10 +47,7 @@ pub fn parse_until<'a>(
         (before_delimiter (chars delimiters.now) (chars (drop start source.now)))) }
     ensures marks { IfErr result (IsMarkedAt start source.now) }
 {
-    let text = &source[start..];
-    let rest = from_delimiter(text, delimiters);
-    let (front, _) = text.split_at(text.len() - rest.len());
-    let front = front.trim_end();
+    let (front, rest) = split_at_delimiter(&source[start..], delimiters);
     match Literal::parse(alloc, front) {
         Ok(literal) => Ok(Prefix { literal, rest }),
         Err(error) => Err(MalformedPrefix {
@@ -60,15 +57,28 @@ pub fn parse_until<'a>(
     }
 }
 
-/// Returns the part of `text` from the delimiter on.
-fn from_delimiter<'a>(text: &'a str, delimiters: &str) -> &'a str
-    ensures { chars result.now ≡ from_delimiter (chars delimiters.now) (chars text.now) }
+/// Returns the part of `text` before the delimiter, without the white space at its end, and the
+/// part from the delimiter on.
+fn split_at_delimiter<'a>(text: &'a str, delimiters: &str) -> (&'a str, &'a str)
+    ensures front { chars result.0.now ≡ before_delimiter (chars delimiters.now) (chars text.now) }
+    ensures utf8 { IsUtf8 result.0.now }
+    ensures fits { length result.0.now ≤ length text.now }
+    ensures rest { chars result.1.now ≡ from_delimiter (chars delimiters.now) (chars text.now) }
+    ensures end { IsEndOf text.now result.1.now }
+{
+    let rest = from_first(after_literal(text), delimiters);
+    let (front, _) = text.split_at(text.len() - rest.len());
+    (front.trim_end(), rest)
+}
+
+/// Returns the part of `text` in which the delimiter is looked for.
+fn after_literal(text: &str) -> &str
+    ensures { chars result.now ≡ after_literal (chars text.now) }
 {
     if opens(text) {
-        from_first(after_opened(text), delimiters)
-    } else {
-        from_first(text, delimiters)
+        return after_opened(text);
     }
+    text
 }
 
 /// Returns the part of `text` from its first delimiter on.

@@ -1,20 +1,11 @@
 -- The text that is parsed is the literal at the front, valid or malformed.
-use Rattle.litrs_prefix.proofs.Words.{ℕ, List, ◌++◌, take, inl, inr, ap, ◌∙◌, take-append-drop, derivation}
+use Rattle.litrs_prefix.proofs.Words.{arith, derivation}
 use Rattle.litrs_prefix.proofs.Marks.{malformed_marks}
 use Rattle.litrs_prefix.proofs.Pieces.{front_found, front_refused}
 use Rattle.litrs_prefix.proofs.parse_prefix.Goals as goal
 
 pub split_at-requires : goal.split_at-requires
-split_at-requires c = elim c.front_len-len.ensures [
-  | inl is ↦ is.boundary
-  | inr is ↦ is.boundary
-]
-
-pub returns-in-Ok-clause-spells : goal.returns-in-Ok-clause-spells
-returns-in-Ok-clause-spells c =
-    let text = c.args.text.now in
-    let split = c.split_at.ensures in
-    ap (λ (l : List ℕ). l ++ c.split_at.result.1.now) (c.in-Ok.ensures.raw ∙ split.front) ∙ (ap (λ (l : List ℕ). take c.front_len-len.result text ++ l) split.back ∙ take-append-drop c.front_len-len.result text)
+split_at-requires c = grind (arith, c.front_len-len.ensures)
 
 pub returns-in-Ok-clause-found : goal.returns-in-Ok-clause-found
 returns-in-Ok-clause-found c =
@@ -27,7 +18,4 @@ returns-in-Err-clause-malformed c =
     front_refused c.args.text.now c.split_at.result.0.now c.split_at.result.1.now c.front_len-len.result c.in-Err.error c.utf8.text split.front split.back split.front_len c.front_len-len.ensures c.in-Err.ensures.refused
 
 pub returns-in-Err-clause-marks : goal.returns-in-Err-clause-marks
-returns-in-Err-clause-marks c =
-    let split = c.split_at.ensures in
-    malformed_marks c.args.text.now _ c.utf8.text
-    (front_refused c.args.text.now c.split_at.result.0.now c.split_at.result.1.now c.front_len-len.result c.in-Err.error c.utf8.text split.front split.back split.front_len c.front_len-len.ensures c.in-Err.ensures.refused)
+returns-in-Err-clause-marks c = malformed_marks c.args.text.now _ c.utf8.text (returns-in-Err-clause-malformed c)

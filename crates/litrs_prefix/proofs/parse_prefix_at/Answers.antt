@@ -6,16 +6,9 @@ use Rattle.litrs_prefix.proofs.parse_prefix_at.Goals as goal
 
 pub offset_span-requires : goal.offset_span-requires
 offset_span-requires c =
-    let size = c.range_from.ensures.len in
-    malformed_moves c.range_from.result.now c.in-Err.malformed c.args.start c.range_from.utf8 (omega arith) c.in-Err.ensures.malformed
+    malformed_moves c.range_from.result.now c.in-Err.malformed c.args.start c.range_from.utf8 (omega (arith, c.range_from.ensures.len)) c.in-Err.ensures.malformed
 
 pub returns-in-Err-clause-marks : goal.returns-in-Err-clause-marks
 returns-in-Err-clause-marks c =
-    let source = c.args.source.now in
-    moved_marks source c.args.start _ c.utf8.source c.requires (record {
-      of_text = c.in-Err.malformed;
-      malformed = subst (λ (l : List ℕ). IsMalformedOrOutOfMemory (chars l) c.in-Err.malformed) c.range_from.ensures.value c.in-Err.ensures.malformed;
-      len = refl;
-      refusal = c.offset_span.ensures.refusal;
-      char_span = c.offset_span.ensures.char_span;
-    })
+    let is = subst (λ (l : List ℕ). IsMalformedOrOutOfMemory (chars l) c.in-Err.malformed) c.range_from.ensures.value c.in-Err.ensures.malformed in
+    moved_marks c.args.source.now c.args.start (record { error = c.offset_span.result; len = c.in-Err.malformed.len }) c.in-Err.malformed c.utf8.source c.requires is refl c.offset_span.ensures.char_span

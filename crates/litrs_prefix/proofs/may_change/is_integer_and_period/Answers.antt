@@ -1,37 +1,28 @@
 -- The text before the period decides, and its parse.
-use Rattle.litrs_prefix.proofs.Words.{◌≡◌, ℕ, List, [], ◌∷◌, ◌++◌, ◌-◌, length, take, refl, sym, ap, subst, ◌∙◌, chars, false≢true, append_cancel_right, take-append-drop, is_empty, IntegerParts, an_integer, integer_parts, IsBareInteger}
-use Rattle.litrs_prefix.proofs.Pieces.{last_period, period_after}
+use Rattle.litrs_prefix.proofs.Words.{refl, sym, ap, ◌∙◌, encode_utf8_all, false≢true, is_empty, IntegerParts, an_integer, integer_parts}
+use Rattle.litrs_prefix.proofs.Pieces.{period_bytes, period_after}
 use Rattle.litrs_prefix.proofs.may_change.is_integer_and_period.Goals as goal
 
 pub returns-in-Ok : goal.returns-in-Ok
 returns-in-Ok c =
     let is = c.in-Some.ensures.cases in
-    let front = chars c.in-Some.front.now in
-    let spells : front ++ 46 ∷ [] ≡ chars c.args.text.now = period_after c.args.text.now c.in-Some.front.now is.0 c.utf8.text is.2 is.1.0 is.1.1 is.1.2 in
+    let front = period_after c.args.text.now c.in-Some.front.now is.0 c.utf8.text is.2 is.1.0 is.1.1 is.1.2 in
     let only = c.in-Ok.ensures.ok in
     let same = c.is_empty.ensures ∙ ap is_empty c.suffix.ensures in (
-      λ yes. (front, (integer_parts c.in-Ok.lit, only.0, sym same ∙ yes), spells),
-      λ integer.
-          let bare = subst IsBareInteger (append_cancel_right integer.0 front (46 ∷ []) (integer.2 ∙ sym spells)) integer.1 in
-          same ∙ (ap (λ (d : IntegerParts). is_empty d.suffix) (sym (only.1 bare.0 bare.1)) ∙ bare.2),
+      λ yes. front.1 (integer_parts c.in-Ok.lit, only.0, sym same ∙ yes),
+      λ integer. let bare = front.0 integer in same ∙ (ap (λ (d : IntegerParts). is_empty d.suffix) (sym (only.1 bare.0 bare.1)) ∙ bare.2),
     )
 
 pub returns-in-Err : goal.returns-in-Err
 returns-in-Err c =
     let is = c.in-Some.ensures.cases in
-    let front = chars c.in-Some.front.now in
-    let spells : front ++ 46 ∷ [] ≡ chars c.args.text.now = period_after c.args.text.now c.in-Some.front.now is.0 c.utf8.text is.2 is.1.0 is.1.1 is.1.2 in (
+    let front = period_after c.args.text.now c.in-Some.front.now is.0 c.utf8.text is.2 is.1.0 is.1.1 is.1.2 in (
       λ yes. absurd (false≢true yes),
-      λ integer.
-          let bare = subst IsBareInteger (append_cancel_right integer.0 front (46 ∷ []) (integer.2 ∙ sym spells)) integer.1 in
-          absurd (c.in-Err.ensures.refused.none (an_integer bare.0) (refl, bare.1)),
+      λ integer. let bare = front.0 integer in absurd (c.in-Err.ensures.refused.none (an_integer bare.0) (refl, bare.1)),
     )
 
 pub returns-in-None : goal.returns-in-None
 returns-in-None c = (
   λ yes. absurd (false≢true yes),
-  λ integer.
-      let text = c.args.text.now in
-      let last = last_period text integer.0 c.utf8.text integer.2 in
-      absurd (c.in-None.ensures.cases (take (length text - 1) text) (sym (ap (λ (l : List ℕ). take (length text - 1) text ++ l) (sym last.1) ∙ take-append-drop (length text - 1) text))),
+  λ integer. absurd (c.in-None.ensures.cases (encode_utf8_all integer.0) (sym (period_bytes c.args.text.now integer.0 c.utf8.text integer.2))),
 )
