@@ -95,9 +95,9 @@ impl MalformedPrefix {
 ///
 /// # Errors
 ///
-/// The error of [`Literal::parse`] for the malformed prefix, with its length, if a literal begins
-/// and none is valid. The spans count from the start of `text`. `OutOfMemory` if an allocation
-/// fails for the value of the literal at the front.
+/// Returns the error of [`Literal::parse`] for the malformed prefix, with its length, if a literal
+/// begins and none is valid. The spans count from the start of `text`. Returns `OutOfMemory` if the
+/// allocation for the value of the literal at the front fails.
 ///
 /// The malformed prefix of a number, a char or a string that is closed ends after the name that
 /// follows, for example `0b12` in `0b12 + 1`, and all of `"\q"b`. A number has the parts of a
@@ -138,7 +138,8 @@ fn front_len(text: &str) -> usize
     opened_extent(text).unwrap_or_else(|len| len)
 }
 
-/// Returns the end of the character that begins at `start`, or the end of `text`.
+/// Returns the end of the character that begins at the character boundary `start`, or the end of
+/// `text`.
 pub fn next_boundary(text: &str, start: usize) -> usize
     requires { IsCharBoundary text.now start }
     ensures boundary { IsCharBoundary text.now result }
@@ -152,12 +153,12 @@ pub fn next_boundary(text: &str, start: usize) -> usize
     }
 }
 
-/// Like [`parse_prefix`], for the rest of `source` from `start` on. The spans of an error count
-/// from the start of `source`, and its `len` from `start`.
+/// Like [`parse_prefix`], for the rest of `source` from the character boundary `start` on. The
+/// spans of an error count from the start of `source`, and its `len` from `start`.
 ///
 /// # Errors
 ///
-/// Those of [`parse_prefix`].
+/// Returns the errors of [`parse_prefix`].
 pub fn parse_prefix_at(
     alloc: Global,
     source: &str,

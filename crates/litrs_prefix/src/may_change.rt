@@ -29,8 +29,8 @@ pub fn prefix_may_change(text: &str) -> bool
     prefix_goes_on(text) || (is_empty(after_opened(text)) || is_quoted_line_feed(text))
 }
 
-/// Returns `true` if `text` is a lifetime, or `r`, `b`, `br`, `c` or `cr` with any hashes after an
-/// `r`: a quote after it begins a literal.
+/// Returns `true` if `text` is `'`, a lifetime, or `r`, `b`, `br`, `c` or `cr` with any hashes after
+/// an `r`: a quote after it begins a literal.
 pub fn is_open_front(text: &str) -> bool
     ensures { result ≡ is_open_front (chars text.now) }
 {
@@ -74,8 +74,8 @@ pub fn prefix_goes_on(text: &str) -> bool
     goes_on(text) || is_integer_and_period(text)
 }
 
-/// Returns `true` if `text` is an integer without suffix and one period. It is a float, or none, as
-/// `0x1.` is, and `0x1..` has an integer at its front.
+/// Returns `true` if `text` is an integer without suffix and one period, such as `0x1.`: with
+/// another period after it, the integer is at the front.
 fn is_integer_and_period(text: &str) -> bool
     ensures { IsTrue result ↔ IsIntegerAndPeriod (chars text.now) }
 {

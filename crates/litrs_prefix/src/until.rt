@@ -9,9 +9,9 @@ use litrs::Literal;
 use litrs_base::split_first_char;
 use std::alloc::Global;
 
-/// Parses the text of `source` from `start` to the next delimiter, which is a character of
-/// `delimiters`, as one literal. Returns it with the rest, which starts with the delimiter, or is
-/// empty if there is none.
+/// Parses the text of `source` from the character boundary `start` to the next delimiter, which is
+/// a character of `delimiters`, as one literal. Returns it with the rest, which starts with the
+/// delimiter, or is empty if there is none.
 ///
 /// A delimiter within the literal at the front, such as the comma of `"a,b", 2`, does not count: it
 /// is looked for after the closing quote and the name that follows. The white space before it
@@ -23,9 +23,9 @@ use std::alloc::Global;
 ///
 /// # Errors
 ///
-/// The error of [`Literal::parse`] for the text before the delimiter, with its length: for example
-/// `Empty` for `, 2`, and `InvalidLiteral` for `-1, 2`. An unterminated string extends to the end
-/// of `source`. The spans count from the start of `source`.
+/// Returns the error of [`Literal::parse`] for the text before the delimiter, with its length: for
+/// example `Empty` for `, 2`, and `InvalidLiteral` for `-1, 2`. An unterminated string extends to
+/// the end of `source`. The spans count from the start of `source`.
 pub fn parse_until<'a>(
     alloc: Global,
     source: &'a str,
