@@ -111,10 +111,13 @@ raw_before kind bs r None u is none = λ d h. let q = raw_of kind (chars bs) d (
 pub integer_before : (t r : List ℕ) (b : Bool) → IsJudgedBy (IsIntegerOf t) (λ d. ends_suffix d.suffix r && ends_integer d r) (Some b) → IsJudged (Some b) t r
 integer_before t r b h = (an_integer h.0, h.1, h.2)
 
-pub number_before : (bs r : List ℕ) (o : Option Bool) → IsUtf8 bs → IsFront front.Number bs → HasNoDerivation (IsIntegerOf (chars bs)) →
-    IsJudgedBy (IsFloatOf (chars bs)) (λ d. ends_suffix d.suffix r && ends_float d r) o → IsJudged o (chars bs) r
-number_before bs r (Some b) u is integers floats = (a_float floats.0, floats.1, floats.2)
-number_before bs r None u is integers floats = λ d h.
+pub float_before : (t r : List ℕ) (b : Bool) → IsJudgedBy (IsFloatOf t) (λ d. ends_suffix d.suffix r && ends_float d r) (Some b) → IsJudged (Some b) t r
+float_before t r b h = (a_float h.0, h.1, h.2)
+
+pub number_before : (bs r : List ℕ) (o : Option Bool) → IsUtf8 bs → IsFront front.Number bs → HasNoDerivation (IsFloatOf (chars bs)) →
+    IsJudgedBy (IsIntegerOf (chars bs)) (λ d. ends_suffix d.suffix r && ends_integer d r) o → IsJudged o (chars bs) r
+number_before bs r (Some b) u is floats integers = integer_before (chars bs) r b integers
+number_before bs r None u is floats integers = λ d h.
     elim (number_kind (begins_float bs) d (kind_at front.Number bs _ d u is refl h)) [
       | inl x ↦ integers x.0 (subst (λ (e : Derivation). IsLiteral (chars bs) e) x.1 h)
       | inr x ↦ floats x.0 (subst (λ (e : Derivation). IsLiteral (chars bs) e) x.1 h)

@@ -1,7 +1,7 @@
 -- Ends of numbers: before a period that does not belong to one, after the digits of a base, and
 -- before a letter.
 use Rattle.std.proofs.Common.{◌≡◌, ℕ, Bool, true, false, not, ◌&&◌, List, [], ◌∷◌, ◌++◌, take, drop, Option, Some, None, refl, sym, ap, subst, ◌∙◌, inl, inr, arith, ◌-◌, ◌<◌, length, length-drop, ◌==◌, ◌||◌, if◌then◌else◌}
-use Rattle.litrs_prefix.specs.Words.{is_ascii_digit, prefix_len, list_all, chars, IsUtf8, IsCharBoundary, first_passes, is_decimal_char, is_period, IsFloatOf, IntegerParts, IsIntegerOf, is_e, Derivation, an_integer, IsLiteral, starts_identifier, after_digits, IsOnlyRest, after_fraction, after_exponent, IsJudgedBy, IsMalformedLen, IsJudged, after_opened, ends_suffix, ends_integer, keeps_period, HasPrefix, nat_le, is_xid_continue, begins_float, IsFront, after_run, after_name, opens, prefix, is_digit_or_underscore, HasNoDerivation, is_float_mark}
+use Rattle.litrs_prefix.specs.Words.{is_ascii_digit, prefix_len, list_all, chars, IsUtf8, IsCharBoundary, first_passes, is_decimal_char, is_period, IsFloatOf, IntegerParts, IsIntegerOf, is_e, Derivation, an_integer, IsLiteral, starts_identifier, after_digits, IsOnlyRest, after_fraction, after_exponent, IsJudgedBy, IsMalformedLen, after_opened, ends_suffix, ends_integer, keeps_period, HasPrefix, nat_le, is_xid_continue, begins_float, after_run, after_name, opens, prefix, is_digit_or_underscore, HasNoDerivation, is_float_mark}
 use Rattle.std.proofs.lemmas.Bool.{or_left, or_parts, and_parts, not-true, true≢false, or_from, ne_eqb}
 use Rattle.std.proofs.lemmas.Bool.Decides.{nat_tests}
 use Rattle.std.proofs.lemmas.List.{drop_at}
@@ -16,13 +16,12 @@ use Rattle.litrs_prefix.proofs.Numbers.{digit_no_name, no_start, is_mark, has_ma
 use Rattle.litrs_prefix.proofs.Opened.{only_rest, number_body}
 use Rattle.unicode_ident.proofs.IdentLemmas.{is_xid_start-ascii, is_xid_continue-ascii}
 use Rattle.litrs_grammar.proofs.Laws.Number.{float_begins}
-use Rattle.litrs_prefix.proofs.Judged.{integer_before, number_before, judged_none, malformed_piece}
+use Rattle.litrs_prefix.proofs.Judged.{judged_none, malformed_piece}
 use Rattle.litrs_prefix.proofs.Meant.{number_parts}
 use Rattle.litrs_prefix.proofs.MeantEnds.{OpenedAt, opened_at, digits_grow}
 use Rattle.litrs_prefix.proofs.Pieces.{parts_spell}
 use Rattle.litrs_prefix.proofs.Runs.{ascii_front, drop_passed, name_cut, name_ends, run_past}
 use Rattle.litrs_prefix.proofs.Unique.{number_of}
-use Rattle.litrs_lex.specs.declared.kind.Front.TheVariants as front
 
 pub digits_front : (bs : List ℕ) → IsUtf8 bs → IsCharBoundary bs (prefix_len is_decimal_char bs) × (chars (drop (prefix_len is_decimal_char bs) bs) ≡ after_digits (chars bs))
 digits_front bs u = ascii_front is_decimal_char (λ c high. grind (arith, nat_tests)) bs u
@@ -83,13 +82,6 @@ only_without_integer bs f rest n o u count before after judged fails = only_unle
     let whole : IsIntegerOf (chars f) x = subst (λ (t : List ℕ). IsIntegerOf t x) (sym front) lit.literal in
     let ends : (ends_suffix x.suffix (chars rest) && ends_integer x (chars rest)) ≡ true = ap (λ (t : List ℕ). ends_suffix x.suffix t && ends_integer x t) (ap chars after ∙ left) ∙ lit.follows in
     fails (judged_so IntegerParts (IsIntegerOf (chars f)) _ x o (λ y h. only_integer (chars f) x y whole h) whole ends judged))
-
--- a text that is parsed as an integer
-
-pub integer_alone : (bs r : List ℕ) (o : Option Bool) → IsUtf8 bs → IsFront front.Number bs → begins_float (chars bs) ≡ false →
-    IsJudgedBy (IsIntegerOf (chars bs)) (λ d. ends_suffix d.suffix r && ends_integer d r) o → IsJudged o (chars bs) r
-integer_alone bs r (Some b) u is none h = integer_before (chars bs) r b h
-integer_alone bs r None u is none h = number_before bs r None u is h (λ d f. true≢false (sym (float_begins (chars bs) d f) ∙ none))
 
 -- before an exponent
 

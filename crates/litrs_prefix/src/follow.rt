@@ -1,8 +1,7 @@
 //! Tests of a piece of a text: it is a literal, and the rest may follow it.
 ghost use Rattle.std.specs.Prelude.{◌≡◌, ◌&&◌};
-ghost use Rattle.litrs_prefix.specs.Words.{chars, first_passes, is_period, float_parts, integer_parts, derivation, is_of_suffix, ends_suffix, ends_bool, keeps_period, gives_period, ends_integer, is_bare, ends_float, may_follow, IsTrue, begins_with, quoted_front, raw_front, IsFloatOf, IsIntegerOf, begins_float, IsQuotedLiteral, IsRawLiteral, IsFront, IsJudged, IsJudgedBy};
+ghost use Rattle.litrs_prefix.specs.Words.{chars, first_passes, is_period, float_parts, integer_parts, derivation, is_of_suffix, ends_suffix, ends_bool, keeps_period, gives_period, ends_integer, is_bare, ends_float, may_follow, IsTrue, begins_with, quoted_front, raw_front, IsFloatOf, IsIntegerOf, IsQuotedLiteral, IsRawLiteral, IsFront, IsJudged, IsJudgedBy};
 
-use crate::malformed::after_digits;
 use crate::opening::{begins_name, is_empty};
 use litrs::{FloatLit, IntegerLit, Literal};
 use litrs_base::{begins_with_digit, split_first_char};
@@ -37,21 +36,10 @@ fn number_follows(front: &str, rest: &str) -> Option<bool>
     requires { IsFront Front.Number front.now }
     ensures { IsJudged result (chars front.now) (chars rest.now) }
 {
-    if begins_float(front) {
-        float_follows(front, rest)
-    } else {
-        integer_follows(front, rest)
+    match float_follows(front, rest) {
+        Some(ends) => Some(ends),
+        None => integer_follows(front, rest),
     }
-}
-
-/// Returns `true` if `front` is parsed as a float: a period, `e` or `E` follows its digits.
-fn begins_float(front: &str) -> bool
-    ensures { result ≡ begins_float (chars front.now) }
-{
-    matches!(
-        split_first_char(after_digits(front)),
-        Some(('.' | 'e' | 'E', _))
-    )
 }
 
 /// Like [`follows`], for an integer.
@@ -118,11 +106,7 @@ pub fn may_follow(literal: &Literal<&str>, rest: &str) -> bool
         Literal::Bool(_) => ends_bool(rest),
         Literal::Integer(lit) => ends_suffix(lit.suffix(), rest) && ends_integer(lit, rest),
         Literal::Float(lit) => ends_suffix(lit.suffix(), rest) && ends_float(lit, rest),
-        Literal::Char(lit) => ends_suffix(lit.suffix(), rest),
-        Literal::String(lit) => ends_suffix(lit.suffix(), rest),
-        Literal::Byte(lit) => ends_suffix(lit.suffix(), rest),
-        Literal::ByteString(lit) => ends_suffix(lit.suffix(), rest),
-        Literal::CString(lit) => ends_suffix(lit.suffix(), rest),
+        _ => ends_suffix(literal.suffix(), rest),
     }
 }
 

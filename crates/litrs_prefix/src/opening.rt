@@ -59,10 +59,7 @@ pub fn opens_raw(text: &str) -> bool
 pub fn opens_bytes(text: &str) -> bool
     ensures { result ≡ opens_bytes (chars text.now) }
 {
-    match split_first_char(text) {
-        Some((c, rest)) => c == '\'' || c == '"' || (c == 'r' && opens_raw(rest)),
-        None => false,
-    }
+    begins_with_single_quote(text) || opens_c_string(text)
 }
 
 /// Returns `true` if `c` and `text` begin a C string.
