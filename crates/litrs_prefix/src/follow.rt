@@ -1,6 +1,6 @@
 //! Tests of a piece of a text: it is a literal, and the rest may follow it.
 ghost use Rattle.std.specs.Prelude.{◌≡◌, ◌&&◌};
-ghost use Rattle.litrs_prefix.specs.Words.{chars, first_passes, is_period, float_parts, integer_parts, derivation, is_of_suffix, ends_suffix, ends_bool, keeps_period, gives_period, ends_integer, is_bare, ends_float, may_follow, IsTrue, begins_with, quoted_front, raw_front, IsFloatOf, IsIntegerOf, IsQuotedLiteral, IsRawLiteral, IsFront, IsJudged, IsJudgedBy};
+ghost use Rattle.litrs_prefix.specs.Words.{chars, first_passes, is_period, float_parts, integer_parts, derivation, ends_suffix, ends_bool, keeps_period, gives_period, ends_integer, is_bare, ends_float, may_follow, IsTrue, begins_with, quoted_front, raw_front, IsFloatOf, IsIntegerOf, IsQuotedLiteral, IsRawLiteral, IsFront, IsJudged, IsJudgedBy};
 
 use crate::opening::{begins_name, is_empty};
 use litrs::{FloatLit, IntegerLit, Literal};
@@ -114,18 +114,10 @@ pub fn may_follow(literal: &Literal<&str>, rest: &str) -> bool
 pub(crate) fn ends_suffix(suffix: &str, rest: &str) -> bool
     ensures { result ≡ ends_suffix (chars suffix.now) (chars rest.now) }
 {
-    let none = is_empty(suffix);
-    !matches!(split_first_char(rest), Some((c, _)) if is_of_suffix(none, c))
-}
-
-/// Returns `true` if `c` would be part of the suffix, or begin one if there is `none`.
-fn is_of_suffix(none: bool, c: char) -> bool
-    ensures { result ≡ is_of_suffix none c }
-{
-    if none {
-        begins_name(c)
-    } else {
-        is_xid_continue(c)
+    match split_first_char(rest) {
+        Some((c, _)) if is_empty(suffix) => !begins_name(c),
+        Some((c, _)) => !is_xid_continue(c),
+        None => true,
     }
 }
 
