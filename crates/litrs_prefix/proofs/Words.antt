@@ -8,4 +8,4 @@ pub use Rattle.std.proofs.lemmas.Str.{IsCharBoundary-from_drop, chars-nil, encod
 pub use Rattle.litrs_base.proofs.Chars.{prefix_len-chars, chars_empty}
 pub use Rattle.litrs_lex.proofs.SuffixBytes.{is_word}
 pub use Rattle.litrs_prefix.proofs.Ends.{shorter, after_bytes, not_longer, after_first, end_of_end, end_at, end_boundary, all}
-pub use Rattle.litrs_prefix.specs.Words.{char_kind, byte_kind, IsCharLiteral, chars, bool_text, a_bool, ends_bool, IsOnlyRest, after_opened, IsLiteral, IsCharBoundary, IsMeant, IsBareInteger, is_empty, IntegerParts, an_integer, integer_parts, begins_with, raw_closing, hashes, after_closing, prefix_len, is_decimal_char, past_quote, after_quoted, is_hash, hash_len, past_single_quote, after_single_quote, list_all, raw_special, IsUtf8, encode_utf8_all, nat_eq, AnswerStays, HasPrefix, is_xid_continue, after_run, IsEndOf, after_hashes, encode_utf8, first_passes, is_bool, first_name, derivation, IsMalformedOrOutOfMemory, a_byte, a_char, a_float, switches_of, IsQuoted, IsQuotedLiteral, ends_suffix, Switches, raw_front, RawParts, raw_refusal, has_unicode, allows_nul, IsRawOf, IsRawLiteral, raw_parts_at, escaped_char, plain_char, is_ascii_digit, starts_identifier, after_digits, keeps_period, char_front, char_item_text, is_period, is_e, gives_period, quoted_front, drop_trailing_whitespace, is_delimiter, from_first, byte_len, literal_parse, after_literal, from_delimiter, before_delimiter, StartsWithDelimiter}
+pub use Rattle.litrs_prefix.specs.Words.{char_kind, byte_kind, IsCharLiteral, chars, bool_text, a_bool, ends_bool, IsOnlyRest, after_opened, IsLiteral, IsCharBoundary, IsMeant, IsBareInteger, is_empty, IntegerParts, an_integer, integer_parts, begins_with, raw_closing, hashes, after_closing, prefix_len, is_decimal_char, past_closing, past_quote, after_quoted, is_hash, hash_len, past_single_quote, after_single_quote, list_all, raw_special, IsUtf8, encode_utf8_all, nat_eq, AnswerStays, HasPrefix, is_xid_continue, after_run, IsEndOf, after_hashes, encode_utf8, first_passes, is_bool, first_name, derivation, IsMalformedOrOutOfMemory, a_byte, a_char, a_float, switches_of, IsQuoted, IsQuotedLiteral, ends_suffix, Switches, raw_front, RawParts, raw_refusal, has_unicode, allows_nul, IsRawOf, IsRawLiteral, raw_parts_at, escaped_char, plain_char, is_ascii_digit, starts_identifier, after_digits, keeps_period, char_front, char_item_text, is_period, is_e, gives_period, quoted_front, drop_trailing_whitespace, is_delimiter, from_first, byte_len, literal_parse, after_literal, from_delimiter, before_delimiter, StartsWithDelimiter}

@@ -1,5 +1,5 @@
 -- The ends of literals, as the code finds them.
-use Rattle.std.specs.Prelude.{◌≡◌, ℕ, Bool, not, ◌==◌, ◌&&◌, List, [], ◌∷◌, ◌++◌, drop, if◌then◌else◌, IsTrue}
+use Rattle.std.specs.Prelude.{◌≡◌, ℕ, Bool, true, false, not, ◌==◌, ◌&&◌, List, [], ◌∷◌, ◌++◌, drop, if◌then◌else◌, IsTrue}
 use Rattle.std.specs.List.{prefix_len}
 use Rattle.std.specs.Str.{chars, IsUtf8, IsCharBoundary}
 use Rattle.litrs_base.specs.Characters.{single_quote, backslash, line_feed}
@@ -33,20 +33,22 @@ abbrev pub after_exponent : List ℕ → List ℕ
 after_exponent [] = []
 after_exponent (c ∷ t) = if is_e c then after_digits (after_sign t) else (c ∷ t)
 
--- The text after the first quote that is not escaped. The first character may be escaped.
-abbrev pub past_quote : (quote : ℕ) (escaped : Bool) → List ℕ → List ℕ
-past_quote quote escaped [] = []
-past_quote quote escaped (c ∷ t) =
-    if (c == quote) && not escaped then t
-    else past_quote quote ((c == backslash) && not escaped) t
+-- The text after the first quote that is not escaped, or nothing if there is none. If `in_line`, the
+-- text after the line if there is none in it. The first character may be escaped.
+abbrev pub past_closing : (quote : ℕ) (in_line escaped : Bool) → List ℕ → List ℕ
+past_closing quote in_line escaped [] = []
+past_closing quote in_line escaped (c ∷ t) =
+    if in_line && (c == line_feed) then c ∷ t
+    else if (c == quote) && not escaped then t
+    else past_closing quote in_line ((c == backslash) && not escaped) t
 
--- Like `past_quote`, within the line, or the text after the line.
+-- Like `past_closing`, in the whole text.
+abbrev pub past_quote : (quote : ℕ) (escaped : Bool) → List ℕ → List ℕ
+past_quote quote = past_closing quote false
+
+-- Like `past_closing`, for a `'` in the line.
 abbrev pub past_single_quote : (escaped : Bool) → List ℕ → List ℕ
-past_single_quote escaped [] = []
-past_single_quote escaped (c ∷ t) =
-    if c == line_feed then c ∷ t
-    else if (c == single_quote) && not escaped then t
-    else past_single_quote ((c == backslash) && not escaped) t
+past_single_quote = past_closing single_quote true
 
 -- The rest starts at this place of the text with these bytes.
 abbrev pub EndsBefore : (bytes rest : List ℕ) → ℕ → Type 0
