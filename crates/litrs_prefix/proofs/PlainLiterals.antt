@@ -4,13 +4,14 @@ use Rattle.std.proofs.Common.{◌≡◌, ℕ, true, false, not, ◌&&◌, ◌||�
 use Rattle.litrs_prefix.specs.Words.{⊤, encode_utf8_all, is_ascii, is_ascii_digit, is_ascii_alphanumeric, list_all, prefix_len, chars, IsUtf8, IsCharBoundary, is_xid_continue, char_kind, byte_kind, Switches, char_front, quoted_front, switches_of, raw_front, first_passes, is_empty, begins_with, starts_identifier, IntegerParts, IsIntegerOf, IsFloatOf, is_period, is_decimal_char, char_item_text, IsCharLiteral, is_char_item, IsQuotedLiteral, Derivation, an_integer, a_float, a_char, a_byte, IsLiteral, IsItemsEnd, after_digits, IsEndOf, HasLiteralBefore, past_quote, HasPrefix, may_follow, ends_suffix, is_bare, keeps_period, gives_period, is_quote, RawParts, IsRawLiteral, raw_closing, hashes, hash_len, has_unicode, allows_nul, after_opened, after_closing, after_name, list_any, take_while, Decimal, CharKind, StringKind, integer_text, has_prefix, FloatParts, float_text, is_decimal_literal, is_float_form, CharItem, char_text, Item, QuotedParts, body_text, is_item_list, quoted_text, item_text, is_item, is_complete_before, item_refusal, StringParts, IsString, quoted_parts, string_suffix, raw_parts, HasNoDerivation, IsRawBody, raw_text, length_before}
 use Rattle.std.proofs.lemmas.Bool.{and_from, and_left, and_right, or_parts, eqb-true, false≢true, and_parts, ne_eqb}
 use Rattle.std.proofs.lemmas.Bool.Decides.{nat_tests}
-use Rattle.std.proofs.lemmas.List.{take-append-drop, append_cancel_left, drop_all}
+use Rattle.std.proofs.Math.Seq.{drop-append-add}
+use Rattle.std.proofs.lemmas.List.{drop_at, take-append-drop, append_cancel_left, drop_all}
 use Rattle.std.proofs.lemmas.Str.{chars-nil, encodes-chars, IsUtf8-drop}
 use Rattle.unicode_ident.proofs.IdentLemmas.{is_xid_start-ascii, is_xid_continue-ascii, is_xid_start-is_xid_continue}
 use Rattle.litrs_grammar.proofs.Laws.Integer.{list_all-take_while, first_passes-rest}
 use Rattle.litrs_grammar.proofs.QuotedItems.{stands_body, NoItem, same_items, body_stands, quote_no_item, refused_no_item}
 use Rattle.litrs_lex.proofs.SuffixBytes.{is_suffix-nil}
-use Rattle.litrs_prefix.proofs.Meant.{hashes_low}
+use Rattle.litrs_prefix.proofs.Meant.{hashes_low, closing_here}
 use Rattle.litrs_prefix.proofs.Chars.{longer_char, longer, longer_raw}
 use Rattle.litrs_prefix.proofs.Numbers.{longer_integer, longer_float}
 use Rattle.litrs_prefix.proofs.Judged.{string_at, to_string, string_follows, quoted_of, raw_of}
@@ -18,7 +19,7 @@ use Rattle.litrs_base.proofs.Begins.{begins_with-append}
 use Rattle.litrs_base.proofs.Chars.{chars_ascii, first_passes-chars}
 use Rattle.litrs_grammar.specs.Laws.Raw.{NoClosingIn}
 use Rattle.litrs_grammar.proofs.Laws.Raw.{refused}
-use Rattle.litrs_grammar.proofs.RawCuts.{hash_len-append, hash_cut, after_hashes}
+use Rattle.litrs_grammar.proofs.RawCuts.{length-hashes, hash_len-append, hash_cut, after_hashes}
 use Rattle.litrs_grammar.proofs.RawKinds.{after_front}
 use Rattle.litrs_grammar.proofs.RawScans.{raw_scans_go_on, raw_bodies_end_at_closings}
 use Rattle.litrs_lex.specs.RawCut.{IsRawOpening, IsStop}
@@ -225,6 +226,20 @@ closing_in u a n start end bytes body closing same s back closes quote =
     sym (first_passes-chars is_quote (drop end body) (λ c wide. ne_eqb c 34 (λ e. omega arith)) s.utf8) ∙ (ap (λ (l : List ℕ). first_passes is_quote (chars l)) (sym back) ∙ quote) in
     closing_at n end body s.within s.utf8
     (subst (λ (l : List ℕ). first_passes is_quote (drop end l) ≡ true → begins_with (raw_closing n) (drop end l) ≡ true) same closes here)
+
+-- no closing begins before the place at which the search stops
+pub closing_passed : (u a : Bool) (n start end : ℕ) (bytes : List ℕ) → IsStop u a n start bytes end → after_closing n (chars (drop start bytes)) ≡ after_closing n (chars (drop end bytes))
+closing_passed u a n start end bytes s =
+    let front : List ℕ = s.passed.front in
+    let rest : List ℕ = chars (drop end bytes) in
+    let place = length_before (raw_closing n) rest in
+    let scan : length_before (raw_closing n) (front ++ rest) + (1 + n) ≡ length front + (place + (1 + n)) = omega (arith, (raw_scans_go_on n front rest s.passed.unclosed).0) in
+    ap (after_closing n) (sym s.passed.spells) ∙ (ap (λ (k : ℕ). drop k (front ++ rest)) scan ∙ drop-append-add front rest (place + (1 + n)))
+
+pub closed_at : (n end : ℕ) (bytes : List ℕ) → Closing n end bytes → after_closing n (chars (drop end bytes)) ≡ chars (drop (end + 1 + n) bytes)
+closed_at n end bytes c =
+    let r : List ℕ = chars (drop (end + 1 + n) bytes) in
+    ap (after_closing n) (sym c.spells) ∙ (closing_here n (raw_closing n ++ r) (begins_with-append (raw_closing n) r) ∙ drop_at (raw_closing n) r (1 + n) (omega (arith, length-hashes n)))
 
 is_nothing : (l : List ℕ) → is_empty l ≡ true → l ≡ []
 is_nothing l h = grind arith

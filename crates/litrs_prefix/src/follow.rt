@@ -1,8 +1,8 @@
 //! Tests of a piece of a text: it is a literal, and the rest may follow it.
 ghost use Rattle.std.specs.Prelude.{◌≡◌, ◌&&◌};
-ghost use Rattle.litrs_prefix.specs.Words.{chars, first_passes, is_period, float_parts, integer_parts, derivation, ends_suffix, ends_bool, keeps_period, gives_period, ends_integer, is_bare, ends_float, may_follow, IsTrue, begins_with, quoted_front, raw_front, IsFloatOf, IsIntegerOf, IsQuotedLiteral, IsRawLiteral, IsFront, IsJudged, IsJudgedBy};
+ghost use Rattle.litrs_prefix.specs.Words.{chars, float_parts, integer_parts, derivation, ends_suffix, ends_bool, keeps_period, gives_period, ends_integer, is_bare, ends_float, may_follow, IsTrue, begins_with, quoted_front, raw_front, IsFloatOf, IsIntegerOf, IsQuotedLiteral, IsRawLiteral, IsFront, IsJudged, IsJudgedBy};
 
-use crate::opening::{begins_name, is_empty};
+use crate::opening::{begins_name, begins_with, is_empty};
 use litrs::{FloatLit, IntegerLit, Literal};
 use litrs_base::{begins_with_digit, split_first_char};
 use litrs_lex::{Front, StringKind, cut_byte, cut_char, cut_quoted, scan_raw_string};
@@ -141,7 +141,7 @@ pub(crate) fn ends_integer(lit: &IntegerLit<&str>, rest: &str) -> bool
 pub(crate) fn ends_float(lit: &FloatLit<&str>, rest: &str) -> bool
     ensures { result ≡ ends_float (float_parts lit.now) (chars rest.now) }
 {
-    !begins_with_digit(rest) && !(begins_with_period(rest) && is_bare(lit))
+    !begins_with_digit(rest) && !(begins_with(rest, '.') && is_bare(lit))
 }
 
 /// Returns `true` if `lit` ends with its period.
@@ -149,13 +149,6 @@ fn is_bare(lit: &FloatLit<&str>) -> bool
     ensures { result ≡ is_bare (float_parts lit.now).fraction }
 {
     matches!(lit.fractional_part(), Some(fraction) if is_empty(fraction))
-}
-
-/// Returns `true` if `text` starts with a period.
-pub(crate) fn begins_with_period(text: &str) -> bool
-    ensures { result ≡ first_passes is_period (chars text.now) }
-{
-    matches!(split_first_char(text), Some((c, _)) if c == '.')
 }
 
 /// Returns `true` if `text` starts with a period that an integer before it would take.

@@ -1,13 +1,14 @@
 //! The extent of a literal that may be malformed.
-ghost use Rattle.std.specs.Prelude.{◌≡◌, ◌≤◌, false};
-ghost use Rattle.litrs_prefix.specs.Words.{ℕ, length, drop, chars, IsEndOf, after_digits, after_exponent, after_fraction, after_sign, past_closing, after_char, after_closing, after_raw, after_prefixed, after_number, after_body, after_opened};
+ghost use Rattle.std.specs.Prelude.{◌≡◌, false};
+ghost use Rattle.litrs_prefix.specs.Words.{drop, chars, IsEndOf, after_digits, after_exponent, after_fraction, after_sign, past_closing, after_char, after_closing, after_raw, after_prefixed, after_number, after_body, after_opened};
 
 use crate::opening::{
-    after_hashes, after_name, begins_with_single_quote, opens_bytes, opens_c_string, opens_raw,
+    after_hashes, after_name, begins_with, opens_bytes, opens_c_string, opens_raw,
 };
 use litrs_base::{IntegerBase, split_first_char};
-use litrs_lex::hashes::{hash_len, is_inner_quote};
-use litrs_lex::{Run, Special, next_special, run_end};
+use litrs_lex::hashes::hash_len;
+use litrs_lex::raw::body_end;
+use litrs_lex::{Run, StringKind, run_end};
 
 /// Returns the part of `text` after the literal, valid or malformed, that begins at its front:
 /// after the body, its closing, and the name that follows.
@@ -100,7 +101,7 @@ fn after_char(text: &str) -> &str
     ensures { chars result.now ≡ after_char (chars text.now) }
 {
     match split_first_char(text) {
-        Some((c, rest)) if c != '\\' && begins_with_single_quote(rest) => after_first(rest),
+        Some((c, rest)) if c != '\\' && begins_with(rest, '\'') => after_first(rest),
         _ => after_quote(text, '\'', true),
     }
 }
@@ -139,29 +140,14 @@ fn after_closing(text: &str, hashes: usize) -> &str
 {
     let mut rest = text;
     loop {
-        let stop = from_quote(rest);
-        let Some((c, after)) = split_first_char(stop) else {
-            return stop;
-        };
-        if c == '"' && !is_inner_quote(stop.as_bytes(), hashes) {
-            return &after[hashes..];
+        let end = body_end(rest.as_bytes(), 0, hashes, StringKind::String.switches());
+        let stop = &rest[end..];
+        match split_first_char(stop) {
+            Some((c, _)) if c == '"' => return &rest[end + 1 + hashes..],
+            Some((_, after)) => rest = after,
+            None => return stop,
         }
-        rest = after;
     }
-}
-
-/// Returns the part of `text` from its first `"` or CR on.
-fn from_quote(text: &str) -> &str
-    ensures closing { (n : ℕ) →
-        after_closing n (chars result.now) ≡ after_closing n (chars text.now) }
-    ensures shorter { length result.now ≤ length text.now }
-{
-    let what = Special {
-        backslash: false,
-        nul: false,
-        non_ascii: false,
-    };
-    &text[next_special(text.as_bytes(), 0, what)..]
 }
 
 /// Returns the part of `text` after its first character.

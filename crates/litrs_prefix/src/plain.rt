@@ -5,9 +5,9 @@ ghost use Rattle.litrs_prefix.specs.Words.{⊤, length, IsTrue, IsFalse, IfOk, I
 
 use crate::Prefix;
 use crate::extent::judged_extent;
-use crate::follow::{begins_with_period, integer_follows, keeps_period};
+use crate::follow::{integer_follows, keeps_period};
 use crate::malformed::after_digits;
-use crate::opening::{begins_with_quote, is_empty, starts_beyond_ascii};
+use crate::opening::{begins_with, is_empty, starts_beyond_ascii};
 use litrs::{Literal, StringLit};
 use litrs_base::{CharKind, begins_with_digit, split_first_char};
 use litrs_lex::integer::begins_with_e;
@@ -25,7 +25,7 @@ pub fn number_extent(text: &str) -> Result<usize, usize>
     ensures malformed { IfErr result (IsMalformedLen text.now) }
 {
     let rest = after_digits(text);
-    if begins_with_period(rest) {
+    if begins_with(rest, '.') {
         match after_period(text, rest) {
             Some(after) => Ok(text.len() - after.len()),
             None => judged_extent(text),
@@ -125,7 +125,7 @@ pub fn raw_extent(text: &str, kind: StringKind) -> Result<usize, usize>
     if is_empty(closing) {
         return Err(text.len());
     }
-    if begins_with_quote(closing) {
+    if begins_with(closing, '"') {
         let rest = &body[end + 1 + hashes..];
         if ends_name(rest) {
             return Ok(text.len() - rest.len());
@@ -144,7 +144,7 @@ pub fn plain_string(text: &str) -> Option<Prefix<'_>>
     ensures found { IfSome result (λ prefix.
         HasPrefix (chars text.now) (derivation prefix.literal) (chars prefix.rest.now)) }
 {
-    if !begins_with_quote(text) {
+    if !begins_with(text, '"') {
         return None;
     }
     let quote = plain_body_end(text, 1, InString)?;

@@ -21,7 +21,7 @@ returns-then-ends_name-clause-literal c =
     let text = c.args.text.now in
     let rest = c.after_digits-rest.result.now in
     let is = c.after_digits-rest.ensures.rest in
-    let period : first_passes is_period (chars rest) ≡ false = sym c.begins_with_period.ensures ∙ c.if-begins_with_period.false in
+    let period : first_passes is_period (chars rest) ≡ false = sym c.begins_with.ensures ∙ c.if-begins_with.false in
     literal_len text rest (before_of text rest (after_digits (chars text)) c.after_digits-rest.ensures.end c.after_digits-rest.utf8
     (integer_at (chars text) c.requires.digit (ap (first_passes starts_identifier) (sym is) ∙ no_start (chars rest) (c.ends_name.ensures c.if-ends_name.true))
     (ap gives_period (sym is) ∙ no_period (chars rest) period)) is)
@@ -59,7 +59,7 @@ pub returns-in-None-2-clause-malformed : goal.returns-in-None-2-clause-malformed
 returns-in-None-2-clause-malformed c =
     let split = c.split_at.ensures in
     let is = c.after_digits-rest.ensures.rest in
-    let mark = no_mark (after_digits (chars c.args.text.now)) (ap (first_passes is_period) (sym is) ∙ (sym c.begins_with_period.ensures ∙ c.if-begins_with_period.false))
+    let mark = no_mark (after_digits (chars c.args.text.now)) (ap (first_passes is_period) (sym is) ∙ (sym c.begins_with.ensures ∙ c.if-begins_with.false))
     (e_first c.after_digits-rest.result.now _ c.after_digits-rest.utf8 is
     ∙ (ap (first_passes is_e) (sym c.as_bytes.ensures.value) ∙ (sym c.begins_with_e.ensures ∙ c.if-begins_with_e.false))) in
     let count = c.run_end-len.ensures.run ∙ ap (prefix_len is_word) c.as_bytes-else-begins_with_e.ensures.value in

@@ -35,7 +35,7 @@ returns-then-is_empty-clause-malformed c =
 pub range_from-rest-requires : goal.range_from-rest-requires
 range_from-rest-requires c =
     let s = stop_in c.args.kind _ _ _ _ _ _ c.switches.ensures c.as_bytes.ensures.value c.body_end-end.ensures.stop in
-    let closing = closing_in _ _ _ _ _ _ _ _ c.as_bytes.ensures.value s c.range_from-closing.ensures.value c.body_end-end.ensures.closing (sym c.begins_with_quote.ensures ∙ c.if-begins_with_quote.true) in
+    let closing = closing_in _ _ _ _ _ _ _ _ c.as_bytes.ensures.value s c.range_from-closing.ensures.value c.body_end-end.ensures.closing (sym c.begins_with.ensures ∙ c.if-begins_with.true) in
     λ _. IsCharBoundary-from_drop c.range_from-body.result.now _ closing.within closing.utf8
 
 pub returns-then-ends_name-clause-literal : goal.returns-then-ends_name-clause-literal
@@ -48,7 +48,7 @@ returns-then-ends_name-clause-literal c =
     let back = c.range_from-rest.ensures.value in
     let front = after_front (raw_front kind) text body c.front_len.result (raw_low kind) c.utf8.text c.requires.begins c.front_len.ensures.raw c.range_from-body.ensures.value in
     let s = stop_in kind _ _ _ _ _ _ c.switches.ensures c.as_bytes.ensures.value c.body_end-end.ensures.stop in
-    let closing = closing_in _ _ _ _ _ _ _ _ c.as_bytes.ensures.value s c.range_from-closing.ensures.value c.body_end-end.ensures.closing (sym c.begins_with_quote.ensures ∙ c.if-begins_with_quote.true) in
+    let closing = closing_in _ _ _ _ _ _ _ _ c.as_bytes.ensures.value s c.range_from-closing.ensures.value c.body_end-end.ensures.closing (sym c.begins_with.ensures ∙ c.if-begins_with.true) in
     let stops = ap (λ (l : List ℕ). first_passes is_xid_continue (chars l)) (sym back) ∙ c.ends_name.ensures c.if-ends_name.true in
     literal_len text rest (before_of text rest (chars (drop place body)) (end_of_end text body rest (after_bytes text body _ c.range_from-body.ensures.value) (after_bytes body rest place back)) c.range_from-rest.utf8
     (raw_ends kind text body c.in-Ok.hashes c.in-Ok.start c.body_end-end.result front c.in-Ok.ensures.ok s closing stops) (ap chars back))
