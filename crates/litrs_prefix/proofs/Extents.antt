@@ -1,9 +1,6 @@
 -- Extents of literals, valid or malformed, by what follows them.
-use Rattle.std.proofs.Common.{◌≡◌, ℕ, ◌-◌, ◌≤◌, true, false, List, [], ◌++◌, length, take, drop, None, refl, sym, ap, subst, ◌∙◌, arith}
+use Rattle.litrs_prefix.proofs.Words.{◌≡◌, ℕ, ◌-◌, ◌≤◌, true, false, List, [], ◌++◌, length, take, drop, None, refl, sym, ap, subst, ◌∙◌, arith, take_all, drop_all, chars-nil, IsUtf8-nil, end_at, not_longer}
 use Rattle.litrs_prefix.specs.Words.{is_ascii_digit, list_all, chars, IsUtf8, char_kind, byte_kind, char_front, quoted_front, raw_front, begins_with, first_passes, IsLiteral, HasLiteralBefore, IsOnlyRest, IsLiteralLen, IsMalformedLen, after_opened, opens, HasPrefix, ltb, HasNoDerivation, CharKind, StringKind, string_kind, byte_string_kind, c_string_kind}
-use Rattle.std.proofs.lemmas.List.{take_all, drop_all}
-use Rattle.std.proofs.lemmas.Str.{chars-nil, IsUtf8-nil}
-use Rattle.litrs_prefix.proofs.Ends.{end_at, not_longer}
 use Rattle.litrs_prefix.proofs.Judged.{judged_none, malformed_piece}
 use Rattle.litrs_prefix.proofs.MeantEnds.{OpenedAt, opened_at}
 use Rattle.litrs_prefix.proofs.NumberEnds.{only_unless_digit}

@@ -1,10 +1,7 @@
 -- Decisions if a piece of a text is a literal, and if the rest may follow it.
-use Rattle.std.proofs.Common.{◌≡◌, inl, inr, ℕ, ◌<◌, Bool, true, false, List, ◌++◌, take, drop, Option, Some, None, refl, sym, ap, subst, ◌∙◌, arith, ◌&&◌, if◌then◌else◌}
+use Rattle.litrs_prefix.proofs.Words.{◌≡◌, inl, inr, ℕ, ◌<◌, Bool, true, false, List, ◌++◌, take, drop, Option, Some, None, refl, sym, ap, subst, ◌∙◌, arith, ◌&&◌, if◌then◌else◌, true≢false, false≢true, begins_with-split, dispatch_literal, literals_are_unique}
 use Rattle.litrs_prefix.specs.Words.{codes, chars, IsUtf8, IsCharBoundary, quoted_front, raw_front, begins_with, char_kind, byte_kind, IsCharLiteral, IsFloatOf, IsIntegerOf, Derivation, a_bool, an_integer, a_float, a_char, a_byte, IsLiteral, begins_float, IsQuotedLiteral, RawParts, IsRawLiteral, IsFront, IsOnlyRest, IsLiteralLen, IsMalformedLen, IsJudged, IsJudgedBy, IsMeant, opens, may_follow, ends_bool, ends_suffix, ends_integer, ends_float, HasPrefix, HasNoPrefix, InvalidLiteral, IsOnlyDerivation, HasNoDerivation, without_span, StringKind, string_kind, byte_string_kind, c_string_kind, CharParts, a_string, a_byte_string, a_c_string, IsString, StringParts, quoted_parts, raw_parts, string_suffix, char_literal, byte_literal, c_string_literal, string_literal_of, literal_kind, Dispatch, refused_as, parsed_as, dispatch, QuotedParts, EndsBefore}
-use Rattle.std.proofs.lemmas.Bool.{true≢false, false≢true}
-use Rattle.litrs_base.proofs.Begins.{begins_with-split}
 use Rattle.litrs_grammar.proofs.Laws.Bool.{chars-bool_text}
-use Rattle.litrs_grammar.proofs.Laws.Literal.{dispatch_literal, literals_are_unique}
 use Rattle.litrs_lex.specs.declared.kind.Front.{Front}
 use Rattle.litrs_lex.specs.declared.kind.Front.TheVariants as front
 use Rattle.litrs_lex.specs.Front.{row_of}

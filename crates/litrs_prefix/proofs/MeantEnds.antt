@@ -1,18 +1,12 @@
 -- The text after the piece that begins at the front of a text is an end of the text, without its
 -- first character, and stays the same before more text.
-use Rattle.std.proofs.Common.{◌≡◌, ℕ, ◌-◌, ◌<◌, ◌≤◌, Bool, true, false, not, ◌&&◌, List, [], ◌∷◌, ◌++◌, take, drop, length, refl, sym, ap, subst, ◌∙◌, ◌+◌, length-append, arith, ◌⊎◌, inl, inr, zero, suc, ◌==◌, if◌then◌else◌}
+use Rattle.litrs_prefix.proofs.Words.{◌≡◌, ℕ, ◌-◌, ◌<◌, ◌≤◌, Bool, true, false, not, ◌&&◌, List, [], ◌∷◌, ◌++◌, take, drop, length, refl, sym, ap, subst, ◌∙◌, ◌+◌, length-append, arith, ◌⊎◌, inl, inr, zero, suc, ◌==◌, if◌then◌else◌, false≢true, and_right, true≢false, nat_tests, take-append-drop, drop_all, is_xid_start-ascii, is_xid_continue-ascii, if_true, if_false, bytes_spell, end_at, end_of_end, front_is, shorter, length-hashes}
 use Rattle.litrs_prefix.specs.Words.{encode_utf8_all, is_ascii_digit, chars, IsUtf8, IsCharBoundary, byte_len, begins_with, first_passes, is_empty, is_decimal_char, starts_identifier, IsEndOf, past_closing, past_single_quote, after_digits, after_fraction, after_exponent, after_sign, after_quoted, after_single_quote, after_char, after_raw, after_prefixed, after_number, after_opened, IsMeant, after_closing, after_body, first_name, after_name, after_hashes, opens, after_run, is_single_quote, begins_lifetime, opens_raw, opens_bytes, opens_c_string, is_xid_continue, is_bool, is_quote, hash_len, raw_closing, is_quoted_line_feed, first_run}
-use Rattle.std.proofs.lemmas.Bool.{false≢true, and_right, true≢false}
-use Rattle.std.proofs.lemmas.Bool.Decides.{nat_tests}
-use Rattle.std.proofs.lemmas.List.{take-append-drop, drop_all}
-use Rattle.unicode_ident.proofs.IdentLemmas.{is_xid_start-ascii, is_xid_continue-ascii}
-use Rattle.litrs_base.proofs.ListTests.{if_true, if_false}
-use Rattle.litrs_prefix.proofs.Ends.{all as whole, bytes_spell, end_at, end_of_end, front_is, shorter}
+use Rattle.litrs_prefix.proofs.Ends.{all as whole}
 use Rattle.litrs_prefix.proofs.Meant.{number_parts, past_quote_is, past_single_quote_is, closing_here, closing_later}
 use Rattle.litrs_prefix.proofs.MeantPieces.{meant_first}
 use Rattle.litrs_prefix.proofs.Names.{name_and_rest, run_and_rest, Opening, opening}
 use Rattle.litrs_prefix.proofs.Names.Opening.{digit, double, single, raw, bytes, c_string, word_true, word_false}
-use Rattle.litrs_grammar.proofs.RawCuts.{length-hashes}
 
 -- of a text with one character more, one of two ends
 pub next : (c : ℕ) (t x : List ℕ) → IsEndOf t x → IsEndOf (c ∷ t) x

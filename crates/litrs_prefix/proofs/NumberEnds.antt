@@ -1,20 +1,9 @@
 -- Ends of numbers: before a period that does not belong to one, after the digits of a base, and
 -- before a letter.
-use Rattle.std.proofs.Common.{◌≡◌, ℕ, Bool, true, false, not, ◌&&◌, List, [], ◌∷◌, ◌++◌, take, drop, Option, Some, None, refl, sym, ap, subst, ◌∙◌, inl, inr, arith, ◌-◌, ◌<◌, length, length-drop, ◌==◌, ◌||◌, if◌then◌else◌}
+use Rattle.litrs_prefix.proofs.Words.{◌≡◌, ℕ, Bool, true, false, not, ◌&&◌, List, [], ◌∷◌, ◌++◌, take, drop, Option, Some, None, refl, sym, ap, subst, ◌∙◌, inl, inr, arith, ◌-◌, ◌<◌, length, length-drop, ◌==◌, ◌||◌, if◌then◌else◌, or_left, or_parts, and_parts, not-true, true≢false, or_from, ne_eqb, nat_tests, drop_at, IsUtf8-drop, chars-nil, chars_ascii, first_passes-chars, if_false, list_all-append, list_all-weaken, prefix_len_front, first_passes-append, first_passes-rest, starts_with_digit, only_integer, is_word, words_are_ascii, front_is, is_xid_start-ascii, is_xid_continue-ascii}
 use Rattle.litrs_prefix.specs.Words.{is_ascii_digit, prefix_len, list_all, chars, IsUtf8, IsCharBoundary, first_passes, is_decimal_char, is_period, IsFloatOf, IntegerParts, IsIntegerOf, is_e, Derivation, an_integer, IsLiteral, starts_identifier, after_digits, IsOnlyRest, after_fraction, after_exponent, IsJudgedBy, IsMalformedLen, after_opened, ends_suffix, ends_integer, keeps_period, HasPrefix, nat_le, is_xid_continue, begins_float, after_run, after_name, opens, prefix, is_digit_or_underscore, HasNoDerivation, is_float_mark}
-use Rattle.std.proofs.lemmas.Bool.{or_left, or_parts, and_parts, not-true, true≢false, or_from, ne_eqb}
-use Rattle.std.proofs.lemmas.Bool.Decides.{nat_tests}
-use Rattle.std.proofs.lemmas.List.{drop_at}
-use Rattle.std.proofs.lemmas.Str.{IsUtf8-drop, chars-nil}
-use Rattle.litrs_base.proofs.Chars.{chars_ascii, first_passes-chars}
-use Rattle.litrs_base.proofs.ListTests.{if_false}
-use Rattle.litrs_base.proofs.Runs.{list_all-append, list_all-weaken}
-use Rattle.litrs_grammar.proofs.Laws.Integer.{prefix_len_front, first_passes-append, first_passes-rest, starts_with_digit, only_integer}
-use Rattle.litrs_lex.proofs.SuffixBytes.{is_word, words_are_ascii}
-use Rattle.litrs_prefix.proofs.Ends.{front_is}
 use Rattle.litrs_prefix.proofs.Numbers.{digit_no_name, no_start, is_mark, has_mark, integer_mark}
 use Rattle.litrs_prefix.proofs.Opened.{only_rest, number_body}
-use Rattle.unicode_ident.proofs.IdentLemmas.{is_xid_start-ascii, is_xid_continue-ascii}
 use Rattle.litrs_grammar.proofs.Laws.Number.{float_begins}
 use Rattle.litrs_prefix.proofs.Judged.{judged_none, malformed_piece}
 use Rattle.litrs_prefix.proofs.Meant.{number_parts}

@@ -1,11 +1,6 @@
 -- Numbers, and the rest before which they end.
-use Rattle.std.proofs.Common.{◌≡◌, ℕ, Bool, true, false, not, ◌&&◌, ◌||◌, List, [], ◌∷◌, ◌++◌, length, drop, Option, Some, None, refl, sym, ap, ◌∙◌, subst, arith, append_assoc, ◌==◌}
+use Rattle.litrs_prefix.proofs.Words.{◌≡◌, ℕ, Bool, true, false, not, ◌&&◌, ◌||◌, List, [], ◌∷◌, ◌++◌, length, drop, Option, Some, None, refl, sym, ap, ◌∙◌, subst, arith, append_assoc, ◌==◌, and_parts, and_left, or_left, or_from, not-true, false≢true, nat_tests, drop_at, is_xid_start-ascii, cut_with, integer_cut-is, take_while_front}
 use Rattle.litrs_prefix.specs.Words.{is_ascii_digit, prefix_len, list_all, first_passes, is_empty, starts_identifier, IntegerParts, IsIntegerOf, is_e, IsFloatOf, is_period, is_decimal_char, ends_suffix, ends_integer, ends_float, is_bare, gives_period, is_ascii_alphabetic, take_while, IntegerBase, Decimal, prefix, is_digit_or_underscore, is_suffix, IsInteger, has_prefix, base_of, integer_cut, FloatParts, float_text, fraction_text, is_exponent, is_float_form, is_decimal_literal}
-use Rattle.std.proofs.lemmas.Bool.{and_parts, and_left, or_left, or_from, not-true, false≢true}
-use Rattle.std.proofs.lemmas.Bool.Decides.{nat_tests}
-use Rattle.std.proofs.lemmas.List.{drop_at}
-use Rattle.unicode_ident.proofs.IdentLemmas.{is_xid_start-ascii}
-use Rattle.litrs_grammar.proofs.Laws.Integer.{cut_with, integer_cut-is, take_while_front}
 use Rattle.litrs_grammar.proofs.Laws.Float.{float_is_cut, suffix_no_period}
 use Rattle.litrs_grammar.proofs.FloatCuts.{IsCut, after_decimals}
 use Rattle.litrs_prefix.proofs.Meant.{digits_passed}

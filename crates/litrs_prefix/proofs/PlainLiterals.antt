@@ -1,25 +1,16 @@
 -- Literals that are read once: those without a suffix, before a rest that neither begins nor
 -- continues a name, and strings that are not closed.
-use Rattle.std.proofs.Common.{◌≡◌, ℕ, true, false, not, ◌&&◌, ◌||◌, List, [], ◌∷◌, ◌++◌, drop, Some, refl, sym, ap, subst, ◌∙◌, append-nil, arith, ◌+◌, ◌≤◌, Bool, length, inl, inr, append_assoc, ◌==◌}
+use Rattle.litrs_prefix.proofs.Words.{◌≡◌, ℕ, true, false, not, ◌&&◌, ◌||◌, List, [], ◌∷◌, ◌++◌, drop, Some, refl, sym, ap, subst, ◌∙◌, append-nil, arith, ◌+◌, ◌≤◌, Bool, length, inl, inr, append_assoc, ◌==◌, and_from, and_left, and_right, or_parts, eqb-true, false≢true, and_parts, ne_eqb, nat_tests, drop_at, take-append-drop, append_cancel_left, drop_all, chars-nil, encodes-chars, IsUtf8-drop, is_xid_start-ascii, is_xid_continue-ascii, is_xid_start-is_xid_continue, list_all-take_while, first_passes-rest, is_suffix-nil, begins_with-append, chars_ascii, first_passes-chars, length-hashes, hash_len-append}
 use Rattle.litrs_prefix.specs.Words.{⊤, encode_utf8_all, is_ascii, is_ascii_digit, is_ascii_alphanumeric, list_all, prefix_len, chars, IsUtf8, IsCharBoundary, is_xid_continue, char_kind, byte_kind, Switches, char_front, quoted_front, switches_of, raw_front, first_passes, is_empty, begins_with, starts_identifier, IntegerParts, IsIntegerOf, IsFloatOf, is_period, is_decimal_char, char_item_text, IsCharLiteral, is_char_item, IsQuotedLiteral, Derivation, an_integer, a_float, a_char, a_byte, IsLiteral, IsItemsEnd, after_digits, IsEndOf, HasLiteralBefore, past_quote, HasPrefix, may_follow, ends_suffix, is_bare, keeps_period, gives_period, is_quote, RawParts, IsRawLiteral, raw_closing, hashes, hash_len, has_unicode, allows_nul, after_opened, after_closing, after_name, list_any, take_while, Decimal, CharKind, StringKind, integer_text, has_prefix, FloatParts, float_text, is_decimal_literal, is_float_form, CharItem, char_text, Item, QuotedParts, body_text, is_item_list, quoted_text, item_text, is_item, is_complete_before, item_refusal, StringParts, IsString, quoted_parts, string_suffix, raw_parts, HasNoDerivation, IsRawBody, raw_text, length_before}
-use Rattle.std.proofs.lemmas.Bool.{and_from, and_left, and_right, or_parts, eqb-true, false≢true, and_parts, ne_eqb}
-use Rattle.std.proofs.lemmas.Bool.Decides.{nat_tests}
 use Rattle.std.proofs.Math.Seq.{drop-append-add}
-use Rattle.std.proofs.lemmas.List.{drop_at, take-append-drop, append_cancel_left, drop_all}
-use Rattle.std.proofs.lemmas.Str.{chars-nil, encodes-chars, IsUtf8-drop}
-use Rattle.unicode_ident.proofs.IdentLemmas.{is_xid_start-ascii, is_xid_continue-ascii, is_xid_start-is_xid_continue}
-use Rattle.litrs_grammar.proofs.Laws.Integer.{list_all-take_while, first_passes-rest}
 use Rattle.litrs_grammar.proofs.QuotedItems.{stands_body, NoItem, same_items, body_stands, quote_no_item, refused_no_item}
-use Rattle.litrs_lex.proofs.SuffixBytes.{is_suffix-nil}
 use Rattle.litrs_prefix.proofs.Meant.{hashes_low, closing_here}
 use Rattle.litrs_prefix.proofs.Chars.{longer_char, longer, longer_raw}
 use Rattle.litrs_prefix.proofs.Numbers.{longer_integer, longer_float}
 use Rattle.litrs_prefix.proofs.Judged.{string_at, to_string, string_follows, quoted_of, raw_of}
-use Rattle.litrs_base.proofs.Begins.{begins_with-append}
-use Rattle.litrs_base.proofs.Chars.{chars_ascii, first_passes-chars}
 use Rattle.litrs_grammar.specs.Laws.Raw.{NoClosingIn}
 use Rattle.litrs_grammar.proofs.Laws.Raw.{refused}
-use Rattle.litrs_grammar.proofs.RawCuts.{length-hashes, hash_len-append, hash_cut, after_hashes}
+use Rattle.litrs_grammar.proofs.RawCuts.{hash_cut, after_hashes}
 use Rattle.litrs_grammar.proofs.RawKinds.{after_front}
 use Rattle.litrs_grammar.proofs.RawScans.{raw_scans_go_on, raw_bodies_end_at_closings}
 use Rattle.litrs_lex.specs.RawCut.{IsRawOpening, IsStop}

@@ -1,11 +1,19 @@
--- The words and lemmas of the answers, from one place.
+-- The words and lemmas of the answers and of the other lemmas, from one place.
 pub use denote.Shadow.{shadow}
 pub use denote.Text.{Utf8}
-pub use Rattle.std.proofs.Common.{refl, sym, ap, ◌∙◌, ℕ, List, Some, None, drop, ◌≡◌, ◌<◌, ◌≤◌, [], length, subst, inl, inr, arith, ◌-◌, take, ◌∷◌, ◌++◌, ◌+◌, suc, true, false, Bool, eqb, append_assoc, not, ◌==◌, ◌||◌, if◌then◌else◌}
-pub use Rattle.std.proofs.lemmas.Bool.{true≢false, false≢true, ne_eqb, and_left, and_parts, eqb-true, eq-eqb, or_right}
-pub use Rattle.std.proofs.lemmas.List.{take_all, append_cancel_right, take-append-drop, drop_all, length-drop}
-pub use Rattle.std.proofs.lemmas.Str.{IsCharBoundary-from_drop, chars-nil, encodes-chars, IsUtf8-drop, IsCharBoundary-start}
-pub use Rattle.litrs_base.proofs.Chars.{prefix_len-chars, chars_empty}
-pub use Rattle.litrs_lex.proofs.SuffixBytes.{is_word}
-pub use Rattle.litrs_prefix.proofs.Ends.{shorter, after_bytes, not_longer, after_first, end_of_end, end_at, end_boundary, all}
+pub use Rattle.std.proofs.Common.{refl, sym, ap, ◌∙◌, ℕ, List, Some, None, drop, ◌≡◌, ◌<◌, ◌≤◌, [], length, subst, inl, inr, arith, ◌-◌, take, ◌∷◌, ◌++◌, ◌+◌, suc, true, false, Bool, eqb, append_assoc, not, ◌==◌, ◌||◌, if◌then◌else◌, Option, ◌&&◌, length-append, ◌⊎◌, zero, ltb, append-nil}
+pub use Rattle.std.proofs.lemmas.Bool.{true≢false, false≢true, ne_eqb, and_left, and_parts, eqb-true, eq-eqb, or_right, or_left, or_from, not-true, or_parts, and_right, cases_Bool, and_from}
+pub use Rattle.std.proofs.lemmas.List.{take_all, append_cancel_right, take-append-drop, drop_all, length-drop, length-take-le, drop_at, append_cancel_left}
+pub use Rattle.std.proofs.lemmas.Str.{IsCharBoundary-from_drop, chars-nil, encodes-chars, IsUtf8-drop, IsCharBoundary-start, IsUtf8-take, IsUtf8-nil}
+pub use Rattle.litrs_base.proofs.Chars.{prefix_len-chars, chars_empty, chars_ascii, first_passes-chars, OnlyAscii}
+pub use Rattle.litrs_lex.proofs.SuffixBytes.{is_word, words_are_ascii, is_suffix-nil}
+pub use Rattle.litrs_prefix.proofs.Ends.{shorter, after_bytes, not_longer, after_first, end_of_end, end_at, end_boundary, all, front_is, bytes_spell}
 pub use Rattle.litrs_prefix.specs.Words.{char_kind, byte_kind, IsCharLiteral, chars, bool_text, a_bool, ends_bool, IsOnlyRest, after_opened, IsLiteral, IsCharBoundary, IsMeant, IsBareInteger, is_empty, IntegerParts, an_integer, integer_parts, begins_with, raw_closing, hashes, after_closing, prefix_len, is_decimal_char, past_closing, past_quote, after_quoted, is_hash, hash_len, past_single_quote, after_single_quote, list_all, raw_special, IsUtf8, encode_utf8_all, nat_eq, AnswerStays, HasPrefix, is_xid_continue, after_run, IsEndOf, after_hashes, encode_utf8, first_passes, is_bool, first_name, derivation, IsMalformedOrOutOfMemory, a_byte, a_char, a_float, switches_of, IsQuoted, IsQuotedLiteral, ends_suffix, Switches, raw_front, RawParts, raw_refusal, has_unicode, allows_nul, IsRawOf, IsRawLiteral, raw_parts_at, escaped_char, plain_char, is_ascii_digit, starts_identifier, after_digits, keeps_period, char_front, char_item_text, is_period, is_e, gives_period, quoted_front, drop_trailing_whitespace, is_delimiter, from_first, byte_len, literal_parse, after_literal, from_delimiter, before_delimiter, StartsWithDelimiter}
+pub use Rattle.litrs_base.proofs.Begins.{begins_with-split, begins_with-append}
+pub use Rattle.litrs_grammar.proofs.Laws.Literal.{dispatch_literal, literals_are_unique}
+pub use Rattle.std.proofs.lemmas.Bool.Decides.{nat_tests}
+pub use Rattle.unicode_ident.proofs.IdentLemmas.{is_xid_start-ascii, is_xid_continue-ascii, is_xid_start-is_xid_continue}
+pub use Rattle.litrs_grammar.proofs.Laws.Integer.{cut_with, integer_cut-is, take_while_front, prefix_len_front, first_passes-append, first_passes-rest, starts_with_digit, only_integer, take_while-append-rest, list_all-take_while}
+pub use Rattle.litrs_base.proofs.ListTests.{if_false, if_true}
+pub use Rattle.litrs_base.proofs.Runs.{list_all-append, list_all-weaken}
+pub use Rattle.litrs_grammar.proofs.RawCuts.{length-hashes, hash_len-append}

@@ -1,7 +1,6 @@
 -- The cut decides.
-use Rattle.litrs_prefix.proofs.Words.{◌≡◌, List, ℕ, true, ◌++◌, drop, length, sym, ap, ◌∙◌, chars, IsUtf8, begins_with, Switches, raw_front, RawParts, raw_refusal, has_unicode, allows_nul, IsRawOf, IsRawLiteral, raw_parts_at, ends_suffix}
+use Rattle.litrs_prefix.proofs.Words.{◌≡◌, List, ℕ, true, ◌++◌, drop, length, sym, ap, ◌∙◌, chars, IsUtf8, begins_with, Switches, raw_front, RawParts, raw_refusal, has_unicode, allows_nul, IsRawOf, IsRawLiteral, raw_parts_at, ends_suffix, begins_with-split}
 use Rattle.litrs_prefix.specs.Words.{StringKind}
-use Rattle.litrs_base.proofs.Begins.{begins_with-split}
 use Rattle.litrs_grammar.proofs.RawKinds.{literal_refusal_free, only_raw_literal}
 use Rattle.litrs_lex.proofs.StringFronts.{raw_boundary, raw_begins, raw_after}
 use Rattle.litrs_prefix.proofs.Judged.{by_only}

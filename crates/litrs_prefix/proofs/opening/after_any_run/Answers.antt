@@ -1,6 +1,5 @@
 -- Each character that is passed is of the run.
-use Rattle.litrs_prefix.proofs.Words.{◌≡◌, true, ◌∷◌, sym, ap, ◌∙◌, chars, is_xid_continue, after_run, after_first}
-use Rattle.litrs_base.proofs.ListTests.{if_true}
+use Rattle.litrs_prefix.proofs.Words.{◌≡◌, true, ◌∷◌, sym, ap, ◌∙◌, chars, is_xid_continue, after_run, after_first, if_true}
 use Rattle.litrs_prefix.proofs.opening.after_any_run.Goals as goal
 
 pub loop-c-preserved : goal.loop-c-preserved
