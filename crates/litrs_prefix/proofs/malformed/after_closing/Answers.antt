@@ -1,17 +1,9 @@
 -- The search stops at the closing, at a character before which no closing begins, or at the end.
-use Rattle.litrs_prefix.proofs.Words.{◌≡◌, [], ◌∷◌, drop, length, sym, ap, subst, ◌∙◌, arith, drop_all, chars, IsUtf8, ne_eqb, and_left, IsCharBoundary-from_drop, begins_with, raw_closing, first_passes, false, after_closing}
+use Rattle.litrs_prefix.proofs.Words.{◌≡◌, [], ◌∷◌, drop, length, sym, ap, ◌∙◌, arith, drop_all, chars, ne_eqb, and_left, IsCharBoundary-from_drop, begins_with, raw_closing, first_passes, false, after_closing}
 use Rattle.litrs_prefix.specs.Words.{string_kind, is_quote}
 use Rattle.litrs_prefix.proofs.Meant.{closing_later}
 use Rattle.litrs_prefix.proofs.PlainLiterals.{stop_in, closing_in, closing_passed, closed_at}
 use Rattle.litrs_prefix.proofs.malformed.after_closing.Goals as goal
-
-pub body_end-end-requires : goal.body_end-end-requires
-body_end-end-requires c = (omega arith, subst IsUtf8 (sym c.as_bytes.ensures.value) c.loop-c.invariant.0)
-
-pub range_from-stop-requires : goal.range_from-stop-requires
-range_from-stop-requires c =
-    let s = stop_in string_kind _ _ _ _ _ _ c.switches.ensures c.as_bytes.ensures.value c.body_end-end.ensures.stop in
-    λ _. IsCharBoundary-from_drop c.loop-c.rest.now c.body_end-end.result s.within s.utf8
 
 pub overflow_add-end-in-Some : goal.overflow_add-end-in-Some
 overflow_add-end-in-Some c =

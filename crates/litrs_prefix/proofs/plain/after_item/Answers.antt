@@ -1,13 +1,7 @@
 -- An escape, or a plain character.
-use Rattle.litrs_prefix.proofs.Words.{◌≡◌, ℕ, List, ◌++◌, true, or_right, sym, ap, subst, ◌∙◌, ◌==◌, chars, first_passes, Switches, plain_char, escaped_char, all, after_first, after_bytes}
+use Rattle.litrs_prefix.proofs.Words.{◌≡◌, ℕ, List, ◌++◌, true, sym, ap, subst, ◌∙◌, chars, Switches, plain_char, escaped_char, all, after_first, after_bytes}
 use Rattle.litrs_prefix.specs.Words.{escape_text, is_escape}
 use Rattle.litrs_prefix.proofs.plain.after_item.Goals as goal
-
-pub unescape_with-requires : goal.unescape_with-requires
-unescape_with-requires c = or_right _ _ (ap (first_passes (λ (k : ℕ). k == 92)) c.in-Some.ensures.parts ∙ ap (λ (k : ℕ). k == 92) c.if-c-eq92.true)
-
-pub range_from-requires : goal.range_from-requires
-range_from-requires c = λ _. c.in-Ok.ensures.ok.boundary
 
 pub returns-in-Ok : goal.returns-in-Ok
 returns-in-Ok c =

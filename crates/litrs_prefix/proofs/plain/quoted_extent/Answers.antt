@@ -9,9 +9,6 @@ use Rattle.litrs_prefix.proofs.plain.quoted_extent.Goals as goal
 pub range_from-body-requires : goal.range_from-body-requires
 range_from-body-requires c = λ _. (front_cut _ c.args.text.now c.front_len.result (quoted_low c.args.kind) c.utf8.text c.requires.begins c.front_len.ensures.quoted).0
 
-pub range_from-requires : goal.range_from-requires
-range_from-requires c = λ _. c.items_len.ensures.read.boundary
-
 pub returns-in-Some-clause-literal : goal.returns-in-Some-clause-literal
 returns-in-Some-clause-literal c =
     let text = c.args.text.now in
