@@ -1,6 +1,6 @@
 -- Decisions if a piece of a text is a literal, and if the rest may follow it.
 use Rattle.litrs_prefix.proofs.Words.{◌≡◌, inl, inr, ℕ, ◌<◌, Bool, true, false, List, ◌++◌, take, drop, Option, Some, None, refl, sym, ap, subst, ◌∙◌, arith, ◌&&◌, if◌then◌else◌, true≢false, false≢true, begins_with-split, dispatch_literal, literals_are_unique}
-use Rattle.litrs_prefix.specs.Words.{codes, chars, IsUtf8, IsCharBoundary, quoted_front, raw_front, begins_with, char_kind, byte_kind, IsCharLiteral, IsFloatOf, IsIntegerOf, Derivation, a_bool, an_integer, a_float, a_char, a_byte, IsLiteral, begins_float, IsQuotedLiteral, RawParts, IsRawLiteral, IsFront, IsOnlyRest, IsLiteralLen, IsMalformedLen, IsJudged, IsJudgedBy, IsMeant, opens, may_follow, ends_bool, ends_suffix, ends_integer, ends_float, HasPrefix, HasNoPrefix, InvalidLiteral, IsOnlyDerivation, HasNoDerivation, without_span, StringKind, string_kind, byte_string_kind, c_string_kind, CharParts, a_string, a_byte_string, a_c_string, IsString, StringParts, quoted_parts, raw_parts, string_suffix, char_literal, byte_literal, c_string_literal, string_literal_of, literal_kind, Dispatch, refused_as, parsed_as, dispatch, QuotedParts, EndsBefore}
+use Rattle.litrs_prefix.specs.Words.{codes, chars, IsUtf8, IsCharBoundary, quoted_front, raw_front, begins_with, char_kind, byte_kind, IsCharLiteral, IsFloatOf, IsIntegerOf, Derivation, a_bool, an_integer, a_float, a_char, a_byte, IsLiteral, begins_float, IsQuotedLiteral, RawParts, IsRawLiteral, IsFront, IsOnlyRest, IsLiteralLen, IsMalformedLen, IsJudged, IsJudgedBy, IsMeant, opens, may_follow, ends_bool, ends_suffix, ends_integer, ends_float, HasPrefix, HasNoPrefix, InvalidLiteral, HasNoDerivation, without_span, StringKind, string_kind, byte_string_kind, c_string_kind, CharParts, a_string, a_byte_string, a_c_string, IsString, StringParts, quoted_parts, raw_parts, string_suffix, char_literal, byte_literal, c_string_literal, string_literal_of, literal_kind, Dispatch, refused_as, parsed_as, dispatch, QuotedParts, EndsBefore}
 use Rattle.litrs_grammar.proofs.Laws.Bool.{chars-bool_text}
 use Rattle.litrs_lex.specs.declared.kind.Front.{Front}
 use Rattle.litrs_lex.specs.declared.kind.Front.TheVariants as front
@@ -67,10 +67,6 @@ raw_of kind t d begins h =
 no_c_string : (t : List ℕ) (x : StringParts) → begins_with (codes "c\"") t ≡ false → begins_with (codes "cr") t ≡ false → IsString c_string_kind t x → ⊥
 no_c_string t (quoted_parts q) quoted raw h = true≢false (ap (begins_with (codes "c\"")) h.spells ∙ quoted)
 no_c_string t (raw_parts q) quoted raw h = true≢false (ap (begins_with (codes "cr")) h.spells ∙ raw)
-
--- by the only derivation
-pub by_only : {D : Type 0} (Derives : D → Type 0) (ends : D → Bool) (d : D) (b : Bool) → IsOnlyDerivation Derives d → ends d ≡ b → IsJudgedBy Derives ends (Some b)
-by_only Derives ends d b only is = (d, only.0, is)
 
 -- the kind of the literal that a text is, by how its bytes begin
 kind_at : (f : Front) (bs : List ℕ) (row : Dispatch) (d : Derivation) → IsUtf8 bs → IsFront f bs → row_of f bs ≡ row → IsLiteral (chars bs) d → parsed_as (literal_kind d) ≡ row
