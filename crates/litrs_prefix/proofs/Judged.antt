@@ -1,7 +1,6 @@
 -- Decisions if a piece of a text is a literal, and if the rest may follow it.
 use Rattle.litrs_prefix.proofs.Words.{◌≡◌, inl, inr, ℕ, ◌<◌, Bool, true, false, List, ◌++◌, take, drop, Option, Some, None, refl, sym, ap, subst, ◌∙◌, arith, ◌&&◌, if◌then◌else◌, true≢false, false≢true, begins_with-split, dispatch_literal, literals_are_unique}
-use Rattle.litrs_prefix.specs.Words.{codes, chars, IsUtf8, IsCharBoundary, quoted_front, raw_front, begins_with, char_kind, byte_kind, IsCharLiteral, IsFloatOf, IsIntegerOf, Derivation, a_bool, an_integer, a_float, a_char, a_byte, IsLiteral, begins_float, IsQuotedLiteral, RawParts, IsRawLiteral, IsFront, IsOnlyRest, IsLiteralLen, IsMalformedLen, IsJudged, IsJudgedBy, IsMeant, opens, may_follow, ends_bool, ends_suffix, ends_integer, ends_float, HasPrefix, HasNoPrefix, InvalidLiteral, HasNoDerivation, without_span, StringKind, string_kind, byte_string_kind, c_string_kind, CharParts, a_string, a_byte_string, a_c_string, IsString, StringParts, quoted_parts, raw_parts, string_suffix, char_literal, byte_literal, c_string_literal, string_literal_of, literal_kind, Dispatch, refused_as, parsed_as, dispatch, QuotedParts, EndsBefore}
-use Rattle.litrs_grammar.proofs.Laws.Bool.{chars-bool_text}
+use Rattle.litrs_prefix.specs.Words.{codes, chars, IsUtf8, IsCharBoundary, quoted_front, raw_front, begins_with, char_kind, byte_kind, IsCharLiteral, IsFloatOf, IsIntegerOf, Derivation, an_integer, a_char, a_byte, IsLiteral, begins_float, IsQuotedLiteral, RawParts, IsRawLiteral, IsFront, IsOnlyRest, IsLiteralLen, IsMalformedLen, IsJudged, IsJudgedBy, IsMeant, opens, may_follow, ends_suffix, ends_integer, HasPrefix, HasNoPrefix, InvalidLiteral, HasNoDerivation, without_span, StringKind, string_kind, byte_string_kind, c_string_kind, CharParts, a_string, a_byte_string, a_c_string, IsString, StringParts, quoted_parts, raw_parts, string_suffix, char_literal, byte_literal, c_string_literal, string_literal_of, literal_kind, Dispatch, refused_as, parsed_as, dispatch, QuotedParts, EndsBefore}
 use Rattle.litrs_lex.specs.declared.kind.Front.{Front}
 use Rattle.litrs_lex.specs.declared.kind.Front.TheVariants as front
 use Rattle.litrs_lex.specs.Front.{row_of}
@@ -80,16 +79,11 @@ byte_of d h = grind arith
 
 -- each kind
 
-pub bool_before : (value : Bool) (bs r : List ℕ) (b : Bool) → IsUtf8 bs → IsFront (front.Bool value) bs → ends_bool r ≡ b → IsJudged (Some b) (chars bs) r
-bool_before value bs r b u is e = (a_bool value, sym (ap chars is.begins ∙ chars-bool_text value), e)
+pub char_before : (bs : List ℕ) → IsUtf8 bs → IsFront front.Char bs → HasNoDerivation (IsCharLiteral char_kind (chars bs)) → HasNoDerivation (IsLiteral (chars bs))
+char_before bs u is none = λ d h. let x = char_of d (kind_at front.Char bs (parsed_as char_literal) d u is refl h) in none x.0 (subst (λ (e : Derivation). IsLiteral (chars bs) e) x.1 h)
 
-pub char_before : (bs r : List ℕ) (o : Option Bool) → IsUtf8 bs → IsFront front.Char bs → IsJudgedBy (IsCharLiteral char_kind (chars bs)) (λ d. ends_suffix d.suffix r) o → IsJudged o (chars bs) r
-char_before bs r (Some b) u is h = (a_char h.0, h.1, h.2)
-char_before bs r None u is none = λ d h. let x = char_of d (kind_at front.Char bs (parsed_as char_literal) d u is refl h) in none x.0 (subst (λ (e : Derivation). IsLiteral (chars bs) e) x.1 h)
-
-pub byte_before : (bs r : List ℕ) (o : Option Bool) → IsUtf8 bs → IsFront front.Byte bs → IsJudgedBy (IsCharLiteral byte_kind (chars bs)) (λ d. ends_suffix d.suffix r) o → IsJudged o (chars bs) r
-byte_before bs r (Some b) u is h = (a_byte h.0, h.1, h.2)
-byte_before bs r None u is none = λ d h. let x = byte_of d (kind_at front.Byte bs (parsed_as byte_literal) d u is refl h) in none x.0 (subst (λ (e : Derivation). IsLiteral (chars bs) e) x.1 h)
+pub byte_before : (bs : List ℕ) → IsUtf8 bs → IsFront front.Byte bs → HasNoDerivation (IsCharLiteral byte_kind (chars bs)) → HasNoDerivation (IsLiteral (chars bs))
+byte_before bs u is none = λ d h. let x = byte_of d (kind_at front.Byte bs (parsed_as byte_literal) d u is refl h) in none x.0 (subst (λ (e : Derivation). IsLiteral (chars bs) e) x.1 h)
 
 pub quoted_before : (kind : StringKind) (bs r : List ℕ) (o : Option Bool) → IsUtf8 bs → IsFront (front.Quoted kind) bs →
     IsJudgedBy (IsQuotedLiteral kind (chars bs)) (λ d. ends_suffix d.suffix r) o → IsJudged o (chars bs) r
@@ -103,9 +97,6 @@ raw_before kind bs r None u is none = λ d h. let q = raw_of kind (chars bs) d (
 
 pub integer_before : (t r : List ℕ) (b : Bool) → IsJudgedBy (IsIntegerOf t) (λ d. ends_suffix d.suffix r && ends_integer d r) (Some b) → IsJudged (Some b) t r
 integer_before t r b h = (an_integer h.0, h.1, h.2)
-
-pub float_before : (t r : List ℕ) (b : Bool) → IsJudgedBy (IsFloatOf t) (λ d. ends_suffix d.suffix r && ends_float d r) (Some b) → IsJudged (Some b) t r
-float_before t r b h = (a_float h.0, h.1, h.2)
 
 pub number_before : (bs r : List ℕ) (o : Option Bool) → IsUtf8 bs → IsFront front.Number bs → HasNoDerivation (IsFloatOf (chars bs)) →
     IsJudgedBy (IsIntegerOf (chars bs)) (λ d. ends_suffix d.suffix r && ends_integer d r) o → IsJudged o (chars bs) r
