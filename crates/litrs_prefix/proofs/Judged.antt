@@ -1,5 +1,5 @@
 -- Decisions if a piece of a text is a literal, and if the rest may follow it.
-use Rattle.litrs_prefix.proofs.Words.{◌≡◌, inl, inr, ℕ, ◌<◌, Bool, true, false, List, ◌++◌, take, drop, Option, Some, None, refl, sym, ap, subst, ◌∙◌, arith, ◌&&◌, if◌then◌else◌, true≢false, false≢true, begins_with-split, dispatch_literal, literals_are_unique}
+use Rattle.litrs_prefix.proofs.Words.{◌≡◌, inl, inr, ℕ, ◌<◌, Bool, true, false, List, ◌++◌, take, drop, Option, Some, None, refl, sym, ap, subst, ◌∙◌, arith, ◌&&◌, if◌then◌else◌, false≢true, begins_with-split, dispatch_literal, literals_are_unique}
 use Rattle.litrs_prefix.specs.Words.{codes, chars, IsUtf8, IsCharBoundary, quoted_front, raw_front, begins_with, char_kind, byte_kind, IsCharLiteral, IsFloatOf, IsIntegerOf, Derivation, an_integer, a_char, a_byte, IsLiteral, begins_float, IsQuotedLiteral, RawParts, IsRawLiteral, IsFront, IsOnlyRest, IsLiteralLen, IsMalformedLen, IsJudged, IsJudgedBy, IsMeant, opens, may_follow, ends_suffix, ends_integer, HasPrefix, HasNoPrefix, InvalidLiteral, HasNoDerivation, without_span, StringKind, string_kind, byte_string_kind, c_string_kind, CharParts, a_string, a_byte_string, a_c_string, IsString, StringParts, quoted_parts, raw_parts, string_suffix, char_literal, byte_literal, c_string_literal, string_literal_of, literal_kind, Dispatch, refused_as, parsed_as, dispatch, QuotedParts, EndsBefore}
 use Rattle.litrs_lex.specs.declared.kind.Front.{Front}
 use Rattle.litrs_lex.specs.declared.kind.Front.TheVariants as front
@@ -18,12 +18,10 @@ string_at byte_string_kind x = a_byte_string x
 string_at c_string_kind x = a_c_string x
 
 pub to_string : (kind : StringKind) (t : List ℕ) (x : StringParts) → IsString kind t x → IsLiteral t (string_at kind x)
-to_string string_kind t x h = h
-to_string kind t x h = h
+to_string kind t x h = grind arith
 
 from_string : (kind : StringKind) (t : List ℕ) (x : StringParts) → IsLiteral t (string_at kind x) → IsString kind t x
-from_string string_kind t x h = h
-from_string kind t x h = h
+from_string kind t x h = grind arith
 
 pub string_follows : (kind : StringKind) (x : StringParts) (r : List ℕ) → may_follow (string_at kind x) r ≡ ends_suffix (string_suffix x) r
 string_follows kind x r = grind arith
@@ -64,8 +62,7 @@ raw_of kind t d begins h =
     only_raw kind t x.0 begins x.1
 
 no_c_string : (t : List ℕ) (x : StringParts) → begins_with (codes "c\"") t ≡ false → begins_with (codes "cr") t ≡ false → IsString c_string_kind t x → ⊥
-no_c_string t (quoted_parts q) quoted raw h = true≢false (ap (begins_with (codes "c\"")) h.spells ∙ quoted)
-no_c_string t (raw_parts q) quoted raw h = true≢false (ap (begins_with (codes "cr")) h.spells ∙ raw)
+no_c_string t x quoted raw h = grind arith
 
 -- the kind of the literal that a text is, by how its bytes begin
 kind_at : (f : Front) (bs : List ℕ) (row : Dispatch) (d : Derivation) → IsUtf8 bs → IsFront f bs → row_of f bs ≡ row → IsLiteral (chars bs) d → parsed_as (literal_kind d) ≡ row

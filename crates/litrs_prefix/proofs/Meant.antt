@@ -1,5 +1,5 @@
 -- The steps by which what was meant as a literal is passed over.
-use Rattle.litrs_prefix.proofs.Words.{◌≡◌, ℕ, zero, suc, ◌+◌, Bool, true, false, not, ◌&&◌, ltb, List, [], ◌∷◌, ◌++◌, drop, length, Option, Some, None, refl, sym, ap, ◌∙◌, inl, inr, arith, ◌==◌, if◌then◌else◌, cases_Bool, and_parts, nat_tests, drop_at, OnlyAscii, if_true, if_false, prefix_len_front, take_while-append-rest}
+use Rattle.litrs_prefix.proofs.Words.{◌≡◌, ℕ, zero, suc, ◌+◌, Bool, true, false, not, ◌&&◌, ltb, List, [], ◌∷◌, ◌++◌, drop, length, Option, None, refl, sym, ap, ◌∙◌, inl, inr, arith, ◌==◌, if◌then◌else◌, cases_Bool, nat_tests, drop_at, OnlyAscii, prefix_len_front, take_while-append-rest}
 use Rattle.litrs_prefix.specs.Words.{list_all, prefix_len, begins_with, first_passes, is_decimal_char, is_period, is_e, is_hash, hash_len, after_hashes, hashes, raw_closing, past_quote, past_single_quote, after_digits, after_fraction, after_exponent, after_sign, after_single_quote, after_number, after_closing, after_first, FloatParts, float_text, fraction_text, is_sign, sign_len}
 use Rattle.litrs_grammar.proofs.FloatCuts.{IsCut, cut_of, cut_of_text, after_decimals, letter_period, is_exponent_front, fraction_passes, exponent_stops}
 use Rattle.litrs_prefix.proofs.Runs.{drop_passed}
@@ -92,27 +92,19 @@ pub digits_passed : (f x : List ℕ) → list_all is_decimal_char f ≡ true →
 digits_passed f x all stop = drop_at f x (prefix_len is_decimal_char (f ++ x)) (sym (prefix_len_front is_decimal_char f x all stop))
 
 fraction_none : (p x : List ℕ) → is_exponent_front p ≡ true → (p ≡ [] → first_passes is_period x ≡ false) → after_fraction (p ++ x) ≡ p ++ x
-fraction_none [] x front none = (let h = none refl in grind arith)
-fraction_none (c ∷ p) x front none = if_false (is_period c) (after_digits (p ++ x)) (c ∷ (p ++ x)) (letter_period c (and_parts _ _ front).0)
+fraction_none p x front none = grind (arith, letter_period)
 
 fraction_passed : (f : Option (List ℕ)) (p x : List ℕ) → fraction_passes f ≡ true → is_exponent_front p ≡ true → first_passes is_decimal_char x ≡ false →
     (f ≡ None → p ≡ [] → first_passes is_period x ≡ false) → after_fraction (fraction_text f ++ (p ++ x)) ≡ p ++ x
-fraction_passed None p x passes front stop none = fraction_none p x front (none refl)
-fraction_passed (Some f) p x passes front stop none = digits_passed f (p ++ x) passes (exponent_stops p x front stop)
+fraction_passed f p x passes front stop none = grind (arith, fraction_none, digits_passed, exponent_stops)
 
 number_passed : (cs x : List ℕ) → list_all is_decimal_char (drop (sign_len cs) cs) ≡ true → first_passes is_decimal_char x ≡ false → (cs ≡ [] → first_passes is_sign x ≡ false) →
     after_digits (after_sign (cs ++ x)) ≡ x
-number_passed [] [] all stop none = refl
-number_passed [] (d ∷ x) all stop none = ap after_digits (if_false (is_sign d) x (d ∷ x) (none refl)) ∙ digits_passed [] (d ∷ x) refl stop
-number_passed (s ∷ ds) x all stop none = grind (arith, digits_passed ds x, digits_passed (s ∷ ds) x)
+number_passed cs x all stop none = grind (arith, digits_passed)
 
 exponent_passed : (p x : List ℕ) → is_exponent_front p ≡ true → first_passes is_decimal_char x ≡ false → (p ≡ [] → first_passes is_e x ≡ false) →
     ((c : ℕ) → p ≡ c ∷ [] → first_passes is_sign x ≡ false) → after_exponent (p ++ x) ≡ x
-exponent_passed [] x front stop none sign = (let h = none refl in grind arith)
-exponent_passed (c ∷ cs) x front stop none sign =
-    let parts = and_parts (is_e c) _ front in
-    if_true (is_e c) (after_digits (after_sign (cs ++ x))) (c ∷ (cs ++ x)) parts.0
-    ∙ number_passed cs x parts.1 stop (λ e. sign c (ap (λ (t : List ℕ). c ∷ t) e))
+exponent_passed p x front stop none sign = grind (arith, number_passed)
 
 parts_passed : (d : FloatParts) → IsCut d → after_exponent (after_fraction (after_digits (float_text d))) ≡ d.suffix
 parts_passed d cut =

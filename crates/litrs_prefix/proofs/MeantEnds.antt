@@ -159,8 +159,7 @@ abbrev Grown : (more x y : List ℕ) → Type 0
 Grown more x y = (y ≡ x ++ more) ⊎ ((x ≡ []) × IsEndOf more y)
 
 both_grow : (m : List ℕ) (v : Bool) (x y a b : List ℕ) → Grown m x a → Grown m y b → Grown m (if v then x else y) (if v then a else b)
-both_grow m true x y a b h g = h
-both_grow m false x y a b h g = g
+both_grow m v x y a b h g = grind arith
 
 same : (m : List ℕ) {x y a b : List ℕ} → x ≡ y → a ≡ b → Grown m x a → Grown m y b
 same m {x} {y} {a} {b} h g is = subst (λ (l : List ℕ). Grown m l b) h (subst (λ (l : List ℕ). Grown m x l) g is)

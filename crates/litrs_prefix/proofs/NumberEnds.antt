@@ -53,8 +53,7 @@ word_ends : (r : List ℕ) → ends_suffix [] r ≡ true → first_passes is_asc
 word_ends r e d = grind (arith, nat_tests, no_start)
 
 judged_so : (D : Type 0) (Derives : D → Type 0) (ends : D → Bool) (x : D) (o : Option Bool) → ((y : D) → Derives y → y ≡ x) → Derives x → ends x ≡ true → IsJudgedBy Derives ends o → o ≡ Some true
-judged_so D Derives ends x None only h e j = absurd (j x h)
-judged_so D Derives ends x (Some v) only h e j = ap Some (sym j.2 ∙ (ap ends (only j.0 j.1) ∙ e))
+judged_so D Derives ends x o only h e j = grind (arith, only)
 
 -- an integer without a suffix would be what the characters of a name at the front are
 pub only_without_integer : (bs f rest : List ℕ) (n : ℕ) (o : Option Bool) → IsUtf8 bs → n ≡ prefix_len is_word bs → f ≡ take n bs → rest ≡ drop n bs →
