@@ -74,10 +74,7 @@ in_line e line t = past_quote 39 e line ++ drop (length line) t
 
 line_case : (e : Bool) (c : ℕ) (t : List ℕ) → first_line t ++ drop (length (first_line t)) t ≡ t → past_single_quote ((c == 92) && not e) t ≡ in_line ((c == 92) && not e) (first_line t) t →
     past_single_quote e (c ∷ t) ≡ in_line e (first_line (c ∷ t)) (c ∷ t)
-line_case e c t whole rest = elim (cases_Bool (c == 10)) [
-  | inl h ↦ rw (line_ends c t h, h) refl
-  | inr h ↦ rw (line_goes_on c t h, h) (grind arith)
-]
+line_case e c t whole rest = grind (arith, nat_tests, cases_Bool, line_ends, line_goes_on)
 
 past_line_is : (e : Bool) (t : List ℕ) → past_single_quote e t ≡ in_line e (first_line t) t
 past_line_is e [] = refl
@@ -107,10 +104,7 @@ exponent_passed : (p x : List ℕ) → is_exponent_front p ≡ true → first_pa
 exponent_passed p x front stop none sign = grind (arith, number_passed)
 
 parts_passed : (d : FloatParts) → IsCut d → after_exponent (after_fraction (after_digits (float_text d))) ≡ d.suffix
-parts_passed d cut =
-    ap (λ (t : List ℕ). after_exponent (after_fraction t)) (after_decimals d cut)
-    ∙ (ap after_exponent (fraction_passed d.fraction d.exponent d.suffix cut.fraction cut.exponent cut.stops cut.no_period)
-    ∙ exponent_passed d.exponent d.suffix cut.exponent cut.stops cut.no_letter cut.no_sign)
+parts_passed d cut = grind (arith, after_decimals, fraction_passed, exponent_passed)
 
 pub number_parts : (t : List ℕ) → after_number t ≡ after_exponent (after_fraction (after_digits t))
 number_parts t =

@@ -353,10 +353,7 @@ x_end (c ∷ f) [] is = refl
 x_end (c ∷ f) (d ∷ y) is = absurd (omega (arith, ap length is, length-append f (d ∷ y)))
 
 pub letter_is_taken : (t : List ℕ) → opens t ≡ true → after_opened t ≡ [] → after_opened (t ++ 120 ∷ []) ≡ []
-letter_is_taken t h none = elim (body_grows (opening t h) (120 ∷ []) (λ q. absurd (false≢true q))) [
-  | inl is ↦ ap after_name is ∙ name_taken (after_body t) (ap is_empty none)
-  | inr is ↦ x_end is.1.0 _ is.1.1
-]
+letter_is_taken t h none = grind (arith, body_grows, opening, name_taken, x_end)
 
 -- a literal begins
 

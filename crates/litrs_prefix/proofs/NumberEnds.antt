@@ -1,7 +1,7 @@
 -- Ends of numbers: before a period that does not belong to one, after the digits of a base, and
 -- before a letter.
 use Rattle.litrs_prefix.proofs.Words.{◌≡◌, ℕ, Bool, true, false, not, ◌&&◌, List, [], ◌∷◌, ◌++◌, take, drop, Option, Some, None, refl, sym, ap, subst, ◌∙◌, inl, inr, arith, ◌-◌, ◌<◌, length, length-drop, ◌==◌, ◌||◌, if◌then◌else◌, or_left, or_parts, and_parts, not-true, true≢false, or_from, ne_eqb, nat_tests, drop_at, IsUtf8-drop, chars-nil, chars_ascii, first_passes-chars, if_false, list_all-append, list_all-weaken, prefix_len_front, first_passes-append, first_passes-rest, starts_with_digit, only_integer, is_word, words_are_ascii, front_is, is_xid_start-ascii, is_xid_continue-ascii}
-use Rattle.litrs_prefix.specs.Words.{is_ascii_digit, prefix_len, list_all, chars, IsUtf8, IsCharBoundary, first_passes, is_decimal_char, is_period, IsFloatOf, IntegerParts, IsIntegerOf, is_e, Derivation, an_integer, IsLiteral, starts_identifier, after_digits, IsOnlyRest, after_fraction, after_exponent, IsJudgedBy, IsMalformedLen, after_opened, ends_suffix, ends_integer, keeps_period, HasPrefix, nat_le, is_xid_continue, begins_float, after_run, after_name, opens, prefix, is_digit_or_underscore, HasNoDerivation, is_float_mark}
+use Rattle.litrs_prefix.specs.Words.{is_ascii_digit, prefix_len, list_all, chars, IsUtf8, IsCharBoundary, first_passes, is_decimal_char, is_period, IsFloatOf, IntegerParts, IsIntegerOf, is_e, Derivation, an_integer, IsLiteral, starts_identifier, after_digits, IsOnlyRest, after_fraction, after_exponent, IsJudgedBy, IsMalformedLen, after_opened, ends_suffix, ends_integer, keeps_period, HasPrefix, nat_le, is_xid_continue, begins_float, after_run, after_name, opens, HasNoDerivation, is_float_mark}
 use Rattle.litrs_prefix.proofs.Numbers.{digit_no_name, no_start, is_mark, has_mark, integer_mark}
 use Rattle.litrs_prefix.proofs.Opened.{only_rest, number_body}
 use Rattle.litrs_grammar.proofs.Laws.Number.{float_begins}
@@ -44,10 +44,7 @@ only_at_fraction t a at_period digit = only_at_mark t (ap is_mark at_period ∙ 
 -- an integer without a suffix has only characters of names
 
 words : (l : List ℕ) (x : IntegerParts) → IsIntegerOf l x → x.suffix ≡ [] → list_all is_word l ≡ true
-words l x h bare =
-    subst (λ (t : List ℕ). list_all is_word t ≡ true) h.spells
-    (list_all-append is_word (prefix x.base) (x.main ++ x.suffix) (grind arith)
-    (list_all-append is_word x.main x.suffix (list_all-weaken (is_digit_or_underscore x.base) is_word (λ c digit. grind (arith, nat_tests)) x.main h.grammar.digits) (ap (list_all is_word) bare)))
+words l x h bare = grind (arith, nat_tests, list_all-append, list_all-weaken)
 
 word_ends : (r : List ℕ) → ends_suffix [] r ≡ true → first_passes is_ascii_digit r ≡ false → first_passes is_word r ≡ false
 word_ends r e d = grind (arith, nat_tests, no_start)

@@ -220,17 +220,10 @@ closing_in u a n start end bytes body closing same s back closes quote =
 
 -- no closing begins before the place at which the search stops
 pub closing_passed : (u a : Bool) (n start end : ℕ) (bytes : List ℕ) → IsStop u a n start bytes end → after_closing n (chars (drop start bytes)) ≡ after_closing n (chars (drop end bytes))
-closing_passed u a n start end bytes s =
-    let front : List ℕ = s.passed.front in
-    let rest : List ℕ = chars (drop end bytes) in
-    let place = length_before (raw_closing n) rest in
-    let scan : length_before (raw_closing n) (front ++ rest) + (1 + n) ≡ length front + (place + (1 + n)) = omega (arith, (raw_scans_go_on n front rest s.passed.unclosed).0) in
-    ap (after_closing n) (sym s.passed.spells) ∙ (ap (λ (k : ℕ). drop k (front ++ rest)) scan ∙ drop-append-add front rest (place + (1 + n)))
+closing_passed u a n start end bytes s = grind (arith, raw_scans_go_on, drop-append-add)
 
 pub closed_at : (n end : ℕ) (bytes : List ℕ) → Closing n end bytes → after_closing n (chars (drop end bytes)) ≡ chars (drop (end + 1 + n) bytes)
-closed_at n end bytes c =
-    let r : List ℕ = chars (drop (end + 1 + n) bytes) in
-    ap (after_closing n) (sym c.spells) ∙ (closing_here n (raw_closing n ++ r) (begins_with-append (raw_closing n) r) ∙ drop_at (raw_closing n) r (1 + n) (omega (arith, length-hashes n)))
+closed_at n end bytes c = grind (arith, closing_here, begins_with-append, drop_at, length-hashes)
 
 is_nothing : (l : List ℕ) → is_empty l ≡ true → l ≡ []
 is_nothing l h = grind arith
