@@ -1,8 +1,10 @@
 -- The ends of literals, as the code finds them.
-use Rattle.std.specs.Prelude.{◌≡◌, ℕ, Bool, true, false, not, ◌==◌, ◌&&◌, List, [], ◌∷◌, ◌++◌, drop, if◌then◌else◌, IsTrue}
+use Rattle.std.specs.Prelude.{◌≡◌, ℕ, Bool, true, false, not, ◌==◌, ◌&&◌, List, [], ◌∷◌, ◌++◌, drop, if◌then◌else◌, IsTrue, IsFalse}
 use Rattle.std.specs.List.{prefix_len}
 use Rattle.std.specs.Str.{chars, IsUtf8, IsCharBoundary}
+use Rattle.unicode_ident.specs.Ident.{is_xid_continue}
 use Rattle.litrs_base.specs.Characters.{single_quote, backslash, line_feed}
+use Rattle.litrs_base.specs.Text.{first_passes}
 use Rattle.litrs_base.specs.declared.quotes.CharKind.{CharKind}
 use Rattle.litrs_grammar.specs.CharByte.{CharItem, char_item_text, is_char_item}
 use Rattle.litrs_grammar.specs.Float.{is_decimal_char, is_period, is_sign}
@@ -59,15 +61,13 @@ pub record IsItemBefore (kind : CharKind) (bytes rest : List ℕ) : Type 0 where
   pub item : CharItem
   pub grammar : IsTrue (is_char_item kind item)
   pub spells : char_item_text item ++ chars rest ≡ chars bytes
-  pub end : IsEndOf bytes rest
-  pub utf8 : IsUtf8 rest
 
--- The text with these bytes has a literal at its front, and this rest.
-pub record HasLiteralBefore (bytes rest : List ℕ) : Type 0 where
-  pub end : IsEndOf bytes rest
+-- A literal is at the front of the text with these bytes, before this rest, if the rest does not
+-- continue a name.
+pub record IsPlainEnd (bytes rest : List ℕ) : Type 0 where
   pub utf8 : IsUtf8 rest
-  pub literal : Derivation
-  pub at_front : HasPrefix (chars bytes) literal (chars rest)
+  pub literal : IsFalse (first_passes is_xid_continue (chars rest)) →
+      (d : Derivation) × HasPrefix (chars bytes) d (chars rest)
 
 -- Each literal at the front of the text has this rest.
 abbrev pub IsOnlyRest : (t rest : List ℕ) → Type 0

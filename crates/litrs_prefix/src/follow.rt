@@ -152,7 +152,7 @@ fn is_bare(lit: &FloatLit<&str>) -> bool
 }
 
 /// Returns `true` if `text` starts with a period that an integer before it would take.
-fn gives_period(text: &str) -> bool
+pub(crate) fn gives_period(text: &str) -> bool
     ensures { result ≡ gives_period (chars text.now) }
 {
     matches!(split_first_char(text), Some((c, after)) if c == '.' && !keeps_period(after))
@@ -160,7 +160,7 @@ fn gives_period(text: &str) -> bool
 
 /// Returns `true` if a period before `text` does not belong to a number, as `text` starts with
 /// another period or with a name.
-pub(crate) fn keeps_period(text: &str) -> bool
+fn keeps_period(text: &str) -> bool
     ensures { result ≡ keeps_period (chars text.now) }
 {
     matches!(split_first_char(text), Some((c, _)) if c == '.' || begins_name(c))

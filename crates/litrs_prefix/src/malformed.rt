@@ -1,6 +1,6 @@
 //! The extent of a literal that may be malformed.
 ghost use Rattle.std.specs.Prelude.{◌≡◌, false};
-ghost use Rattle.litrs_prefix.specs.Words.{drop, chars, IsEndOf, after_digits, after_exponent, after_fraction, after_sign, past_closing, after_char, after_closing, after_raw, after_prefixed, after_number, after_body, after_opened};
+ghost use Rattle.litrs_prefix.specs.Words.{drop, chars, after_digits, after_exponent, after_fraction, after_sign, past_closing, after_char, after_closing, after_raw, after_prefixed, after_number, after_body, after_opened};
 
 use crate::opening::{
     after_hashes, after_name, begins_with, opens_bytes, opens_c_string, opens_raw,
@@ -58,14 +58,13 @@ fn after_number(text: &str) -> &str
 
 /// Returns the part of `text` after the decimal digits and underscores at its front.
 pub(crate) fn after_digits(text: &str) -> &str
-    ensures rest { chars result.now ≡ after_digits (chars text.now) }
-    ensures end { IsEndOf text.now result.now }
+    ensures { chars result.now ≡ after_digits (chars text.now) }
 {
     &text[run_end(text.as_bytes(), Run::Digits(IntegerBase::Decimal))..]
 }
 
 /// Returns the part of `text` after the period at its front and the digits after that.
-fn after_fraction(text: &str) -> &str
+pub(crate) fn after_fraction(text: &str) -> &str
     ensures { chars result.now ≡ after_fraction (chars text.now) }
 {
     match split_first_char(text) {
