@@ -1,6 +1,6 @@
 //! Tests whether a literal begins at the front of a text, and the names there.
 ghost use Rattle.std.specs.Prelude.{◌≡◌, ◌==◌};
-ghost use Rattle.litrs_prefix.specs.Words.{Bool, length, IsTrue, IsFalse, IfSome, IfNone, chars, begins_with, first_passes, bool_text, is_bool, first_name, begins_lifetime, opens_raw, opens_c_string, opens_bytes, opens, nat_le, is_xid_continue, is_empty, starts_identifier, IsEndOf, after_run, after_name, after_hashes};
+ghost use Rattle.litrs_prefix.specs.Words.{Bool, length, IsTrue, IsFalse, IfSome, IfNone, chars, begins_with, first_passes, bool_text, is_bool, first_name, begins_lifetime, opens_raw, opens_c_string, opens_bytes, opens, is_xid_continue, is_empty, starts_identifier, IsEndOf, after_run, after_name, after_hashes};
 
 use litrs_base::split_first_char;
 use litrs_lex::hashes::hash_len;
@@ -126,27 +126,7 @@ pub fn after_run(text: &str) -> &str
     ensures rest { chars result.now ≡ after_run (chars text.now) }
     ensures end { IsEndOf text.now result.now }
 {
-    let rest = &text[run_end(text.as_bytes(), Run::Identifier)..];
-    if starts_beyond_ascii(rest) {
-        after_any_run(rest)
-    } else {
-        rest
-    }
-}
-
-/// Returns `true` if `text` starts with a character that is not ASCII.
-pub fn starts_beyond_ascii(text: &str) -> bool
-    ensures { result ≡ first_passes (nat_le 128) text.now }
-{
-    matches!(text.as_bytes(), [first, ..] if *first >= 128)
-}
-
-/// Like [`after_run`], but reads character by character.
-fn after_any_run(text: &str) -> &str
-    ensures rest { chars result.now ≡ after_run (chars text.now) }
-    ensures end { IsEndOf text.now result.now }
-{
-    let mut rest = text;
+    let mut rest = &text[run_end(text.as_bytes(), Run::Identifier)..];
     loop {
         match split_first_char(rest) {
             Some((c, after)) if is_xid_continue(c) => rest = after,
