@@ -1,5 +1,5 @@
 -- Chars, bytes and strings, and the rest before which they end.
-use Rattle.std.proofs.Common.{◌≡◌, ℕ, List, ◌∷◌, ◌++◌, sym, ap, ◌∙◌, append_assoc}
+use Rattle.litrs_prefix.proofs.Words.{◌≡◌, ℕ, List, ◌∷◌, ◌++◌, sym, ap, ◌∙◌, append_assoc}
 use Rattle.litrs_prefix.specs.Words.{char_front, raw_front, char_item_text, IsCharLiteral, RawParts, IsRawLiteral, raw_closing, hashes, Switches, IsQuoted, CharKind, StringKind, CharParts, QuotedParts, body_text}
 
 pub longer_char : (kind : CharKind) (s r : List ℕ) (d : CharParts) → IsCharLiteral kind s d →

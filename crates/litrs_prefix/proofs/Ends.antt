@@ -20,15 +20,10 @@ pub after_bytes : (t rest : List ℕ) (n : ℕ) → rest ≡ drop n t → IsEndO
 after_bytes t rest n is = (take n t, ap (λ (l : List ℕ). take n t ++ l) is ∙ take-append-drop n t)
 
 pub shorter : (bs : List ℕ) (c : ℕ) (after : List ℕ) → bs ≡ encode_utf8 c ++ after → length after < length bs
-shorter bs c after is =
-    let size : length bs ≡ length (encode_utf8 c) + length after = ap length is ∙ length-append (encode_utf8 c) after in
-    let least = (len_utf8_bounds c).0 in
-    omega (arith, length-encode c)
+shorter bs c after is = grind (arith, length-append, len_utf8_bounds, length-encode)
 
 pub not_longer : (t x : List ℕ) → IsEndOf t x → length x ≤ length t
-not_longer t x h =
-    let size : length t ≡ length h.0 + length x = ap length (sym h.1) ∙ length-append h.0 x in
-    omega arith
+not_longer t x h = grind (arith, length-append)
 
 -- the place at which the end of a text begins
 pub end_at : (bs front after : List ℕ) → IsUtf8 after → front ++ after ≡ bs → IsCharBoundary bs (length bs - length after) × (drop (length bs - length after) bs ≡ after)

@@ -1,10 +1,6 @@
 -- Decisions if a piece of a text is a literal, and if the rest may follow it.
-use Rattle.std.proofs.Common.{◌≡◌, inl, inr, ℕ, ◌<◌, Bool, true, false, List, ◌++◌, take, drop, Option, Some, None, refl, sym, ap, subst, ◌∙◌, arith, ◌&&◌, if◌then◌else◌}
-use Rattle.litrs_prefix.specs.Words.{codes, chars, IsUtf8, IsCharBoundary, quoted_front, raw_front, begins_with, char_kind, byte_kind, IsCharLiteral, IsFloatOf, IsIntegerOf, Derivation, a_bool, an_integer, a_float, a_char, a_byte, IsLiteral, begins_float, IsQuotedLiteral, RawParts, IsRawLiteral, IsFront, IsOnlyRest, IsLiteralLen, IsMalformedLen, IsJudged, IsJudgedBy, IsMeant, opens, may_follow, ends_bool, ends_suffix, ends_integer, ends_float, HasPrefix, HasNoPrefix, InvalidLiteral, IsOnlyDerivation, HasNoDerivation, without_span, StringKind, string_kind, byte_string_kind, c_string_kind, CharParts, a_string, a_byte_string, a_c_string, IsString, StringParts, quoted_parts, raw_parts, string_suffix, char_literal, byte_literal, c_string_literal, string_literal_of, literal_kind, Dispatch, refused_as, parsed_as, dispatch, QuotedParts, EndsBefore}
-use Rattle.std.proofs.lemmas.Bool.{true≢false, false≢true}
-use Rattle.litrs_base.proofs.Begins.{begins_with-split}
-use Rattle.litrs_grammar.proofs.Laws.Bool.{chars-bool_text}
-use Rattle.litrs_grammar.proofs.Laws.Literal.{dispatch_literal, literals_are_unique}
+use Rattle.litrs_prefix.proofs.Words.{◌≡◌, inl, inr, ℕ, ◌<◌, Bool, true, false, List, ◌++◌, take, drop, Option, Some, None, refl, sym, ap, subst, ◌∙◌, arith, ◌&&◌, if◌then◌else◌, false≢true, begins_with-split, dispatch_literal, literals_are_unique}
+use Rattle.litrs_prefix.specs.Words.{codes, chars, IsUtf8, IsCharBoundary, quoted_front, raw_front, begins_with, char_kind, byte_kind, IsCharLiteral, IsFloatOf, IsIntegerOf, Derivation, an_integer, a_char, a_byte, IsLiteral, begins_float, IsQuotedLiteral, RawParts, IsRawLiteral, IsFront, IsOnlyRest, IsLiteralLen, IsMalformedLen, IsJudged, IsJudgedBy, IsMeant, opens, may_follow, ends_suffix, ends_integer, HasPrefix, HasNoPrefix, InvalidLiteral, HasNoDerivation, without_span, StringKind, string_kind, byte_string_kind, c_string_kind, CharParts, a_string, a_byte_string, a_c_string, IsString, StringParts, quoted_parts, raw_parts, string_suffix, char_literal, byte_literal, c_string_literal, string_literal_of, literal_kind, Dispatch, refused_as, parsed_as, dispatch, QuotedParts, EndsBefore}
 use Rattle.litrs_lex.specs.declared.kind.Front.{Front}
 use Rattle.litrs_lex.specs.declared.kind.Front.TheVariants as front
 use Rattle.litrs_lex.specs.Front.{row_of}
@@ -22,12 +18,10 @@ string_at byte_string_kind x = a_byte_string x
 string_at c_string_kind x = a_c_string x
 
 pub to_string : (kind : StringKind) (t : List ℕ) (x : StringParts) → IsString kind t x → IsLiteral t (string_at kind x)
-to_string string_kind t x h = h
-to_string kind t x h = h
+to_string kind t x h = grind arith
 
 from_string : (kind : StringKind) (t : List ℕ) (x : StringParts) → IsLiteral t (string_at kind x) → IsString kind t x
-from_string string_kind t x h = h
-from_string kind t x h = h
+from_string kind t x h = grind arith
 
 pub string_follows : (kind : StringKind) (x : StringParts) (r : List ℕ) → may_follow (string_at kind x) r ≡ ends_suffix (string_suffix x) r
 string_follows kind x r = grind arith
@@ -68,12 +62,7 @@ raw_of kind t d begins h =
     only_raw kind t x.0 begins x.1
 
 no_c_string : (t : List ℕ) (x : StringParts) → begins_with (codes "c\"") t ≡ false → begins_with (codes "cr") t ≡ false → IsString c_string_kind t x → ⊥
-no_c_string t (quoted_parts q) quoted raw h = true≢false (ap (begins_with (codes "c\"")) h.spells ∙ quoted)
-no_c_string t (raw_parts q) quoted raw h = true≢false (ap (begins_with (codes "cr")) h.spells ∙ raw)
-
--- by the only derivation
-pub by_only : {D : Type 0} (Derives : D → Type 0) (ends : D → Bool) (d : D) (b : Bool) → IsOnlyDerivation Derives d → ends d ≡ b → IsJudgedBy Derives ends (Some b)
-by_only Derives ends d b only is = (d, only.0, is)
+no_c_string t x quoted raw h = grind arith
 
 -- the kind of the literal that a text is, by how its bytes begin
 kind_at : (f : Front) (bs : List ℕ) (row : Dispatch) (d : Derivation) → IsUtf8 bs → IsFront f bs → row_of f bs ≡ row → IsLiteral (chars bs) d → parsed_as (literal_kind d) ≡ row
@@ -87,16 +76,11 @@ byte_of d h = grind arith
 
 -- each kind
 
-pub bool_before : (value : Bool) (bs r : List ℕ) (b : Bool) → IsUtf8 bs → IsFront (front.Bool value) bs → ends_bool r ≡ b → IsJudged (Some b) (chars bs) r
-bool_before value bs r b u is e = (a_bool value, sym (ap chars is.begins ∙ chars-bool_text value), e)
+pub char_before : (bs : List ℕ) → IsUtf8 bs → IsFront front.Char bs → HasNoDerivation (IsCharLiteral char_kind (chars bs)) → HasNoDerivation (IsLiteral (chars bs))
+char_before bs u is none = λ d h. let x = char_of d (kind_at front.Char bs (parsed_as char_literal) d u is refl h) in none x.0 (subst (λ (e : Derivation). IsLiteral (chars bs) e) x.1 h)
 
-pub char_before : (bs r : List ℕ) (o : Option Bool) → IsUtf8 bs → IsFront front.Char bs → IsJudgedBy (IsCharLiteral char_kind (chars bs)) (λ d. ends_suffix d.suffix r) o → IsJudged o (chars bs) r
-char_before bs r (Some b) u is h = (a_char h.0, h.1, h.2)
-char_before bs r None u is none = λ d h. let x = char_of d (kind_at front.Char bs (parsed_as char_literal) d u is refl h) in none x.0 (subst (λ (e : Derivation). IsLiteral (chars bs) e) x.1 h)
-
-pub byte_before : (bs r : List ℕ) (o : Option Bool) → IsUtf8 bs → IsFront front.Byte bs → IsJudgedBy (IsCharLiteral byte_kind (chars bs)) (λ d. ends_suffix d.suffix r) o → IsJudged o (chars bs) r
-byte_before bs r (Some b) u is h = (a_byte h.0, h.1, h.2)
-byte_before bs r None u is none = λ d h. let x = byte_of d (kind_at front.Byte bs (parsed_as byte_literal) d u is refl h) in none x.0 (subst (λ (e : Derivation). IsLiteral (chars bs) e) x.1 h)
+pub byte_before : (bs : List ℕ) → IsUtf8 bs → IsFront front.Byte bs → HasNoDerivation (IsCharLiteral byte_kind (chars bs)) → HasNoDerivation (IsLiteral (chars bs))
+byte_before bs u is none = λ d h. let x = byte_of d (kind_at front.Byte bs (parsed_as byte_literal) d u is refl h) in none x.0 (subst (λ (e : Derivation). IsLiteral (chars bs) e) x.1 h)
 
 pub quoted_before : (kind : StringKind) (bs r : List ℕ) (o : Option Bool) → IsUtf8 bs → IsFront (front.Quoted kind) bs →
     IsJudgedBy (IsQuotedLiteral kind (chars bs)) (λ d. ends_suffix d.suffix r) o → IsJudged o (chars bs) r
@@ -111,10 +95,10 @@ raw_before kind bs r None u is none = λ d h. let q = raw_of kind (chars bs) d (
 pub integer_before : (t r : List ℕ) (b : Bool) → IsJudgedBy (IsIntegerOf t) (λ d. ends_suffix d.suffix r && ends_integer d r) (Some b) → IsJudged (Some b) t r
 integer_before t r b h = (an_integer h.0, h.1, h.2)
 
-pub number_before : (bs r : List ℕ) (o : Option Bool) → IsUtf8 bs → IsFront front.Number bs → HasNoDerivation (IsIntegerOf (chars bs)) →
-    IsJudgedBy (IsFloatOf (chars bs)) (λ d. ends_suffix d.suffix r && ends_float d r) o → IsJudged o (chars bs) r
-number_before bs r (Some b) u is integers floats = (a_float floats.0, floats.1, floats.2)
-number_before bs r None u is integers floats = λ d h.
+pub number_before : (bs r : List ℕ) (o : Option Bool) → IsUtf8 bs → IsFront front.Number bs → HasNoDerivation (IsFloatOf (chars bs)) →
+    IsJudgedBy (IsIntegerOf (chars bs)) (λ d. ends_suffix d.suffix r && ends_integer d r) o → IsJudged o (chars bs) r
+number_before bs r (Some b) u is floats integers = integer_before (chars bs) r b integers
+number_before bs r None u is floats integers = λ d h.
     elim (number_kind (begins_float bs) d (kind_at front.Number bs _ d u is refl h)) [
       | inl x ↦ integers x.0 (subst (λ (e : Derivation). IsLiteral (chars bs) e) x.1 h)
       | inr x ↦ floats x.0 (subst (λ (e : Derivation). IsLiteral (chars bs) e) x.1 h)

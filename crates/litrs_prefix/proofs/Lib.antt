@@ -25,7 +25,6 @@ pub mod Delimiters
 -- pieces that are literals
 pub mod Judged
 -- literals and strings that are read once
-pub mod Extents
 pub mod PlainLiterals
 pub mod PlainStrings
 -- the words and lemmas of the answers

@@ -1,15 +1,8 @@
 -- The steps by which what was meant as a literal is passed over.
-use Rattle.std.proofs.Common.{◌≡◌, ℕ, zero, suc, ◌+◌, Bool, true, false, not, ◌&&◌, ltb, List, [], ◌∷◌, ◌++◌, take, drop, length, Option, Some, None, refl, sym, ap, subst, ◌∙◌, inl, inr, arith, ◌==◌, if◌then◌else◌}
-use Rattle.litrs_prefix.specs.Words.{encode_utf8, list_all, prefix_len, chars, IsUtf8, begins_with, first_passes, is_decimal_char, is_period, is_e, is_quote, is_hash, hashes, raw_closing, past_quote, past_single_quote, after_digits, after_fraction, after_exponent, after_sign, after_single_quote, after_number, after_closing, after_first, FloatParts, float_text, fraction_text, is_sign, sign_len}
-use Rattle.std.proofs.lemmas.Bool.{cases_Bool, and_parts}
-use Rattle.std.proofs.lemmas.Bool.Decides.{nat_tests}
-use Rattle.std.proofs.lemmas.List.{drop_at}
-use Rattle.std.proofs.lemmas.Str.{encode_ascii}
-use Rattle.litrs_base.proofs.Chars.{OnlyAscii, IsAsciiFront, begins_with-chars, begins_front}
-use Rattle.litrs_base.proofs.ListTests.{if_true, if_false}
+use Rattle.litrs_prefix.proofs.Words.{◌≡◌, ℕ, zero, suc, ◌+◌, Bool, true, false, not, ◌&&◌, ltb, List, [], ◌∷◌, ◌++◌, drop, length, Option, None, refl, sym, ap, ◌∙◌, inl, inr, arith, ◌==◌, if◌then◌else◌, cases_Bool, nat_tests, drop_at, OnlyAscii, prefix_len_front, take_while-append-rest}
+use Rattle.litrs_prefix.specs.Words.{list_all, prefix_len, begins_with, first_passes, is_decimal_char, is_period, is_e, is_hash, hash_len, after_hashes, hashes, raw_closing, past_quote, past_single_quote, after_digits, after_fraction, after_exponent, after_sign, after_single_quote, after_number, after_closing, after_first, FloatParts, float_text, fraction_text, is_sign, sign_len}
 use Rattle.litrs_grammar.proofs.FloatCuts.{IsCut, cut_of, cut_of_text, after_decimals, letter_period, is_exponent_front, fraction_passes, exponent_stops}
-use Rattle.litrs_grammar.proofs.Laws.Integer.{prefix_len_front}
-use Rattle.litrs_grammar.proofs.RawCuts.{length-hashes}
+use Rattle.litrs_prefix.proofs.Runs.{drop_passed}
 use Rattle.litrs_prefix.specs.Meant.{Symbol, lone, escaped, symbols, symbols_text, is_lone, after_quote, first_line}
 
 -- closings
@@ -20,26 +13,16 @@ closing_here n t h = grind arith
 pub closing_later : (n c : ℕ) (t : List ℕ) → begins_with (raw_closing n) (c ∷ t) ≡ false → after_closing n (c ∷ t) ≡ after_closing n t
 closing_later n c t h = grind arith
 
--- the hashes after a quote, in bytes
-pub quote_hashes : (n : ℕ) (bytes rest after : List ℕ) (c : ℕ) (v : Bool) → bytes ≡ rest → rest ≡ encode_utf8 c ++ after → c ≡ 34 →
-    (first_passes is_quote bytes && not (begins_with (raw_closing n) bytes)) ≡ v → begins_with (hashes n) after ≡ not v
-quote_hashes n bytes rest after c v same is quote inner =
-    let whole : bytes ≡ 34 ∷ after = same ∙ (is ∙ ap (λ (l : List ℕ). l ++ after) (ap encode_utf8 quote ∙ encode_ascii 34 (omega arith))) in
-    let inner : not (begins_with (hashes n) after) ≡ v = subst (λ (l : List ℕ). (first_passes is_quote l && not (begins_with (raw_closing n) l)) ≡ v) whole inner in
-    grind arith
-
 pub hashes_low : (n : ℕ) → list_all (λ c. ltb c 128) (hashes n) ≡ true
 hashes_low zero = refl
 hashes_low (suc n) = hashes_low n
 
-pub hashes_front : (n : ℕ) (bs : List ℕ) → IsUtf8 bs → begins_with (hashes n) bs ≡ true → IsAsciiFront bs n
-hashes_front n bs u h = subst (λ (k : ℕ). IsAsciiFront bs k) (length-hashes n) (begins_front (hashes n) bs (hashes_low n) h u)
-
-pub hashes_chars : (n : ℕ) (bs : List ℕ) → IsUtf8 bs → begins_with (hashes n) (chars bs) ≡ begins_with (hashes n) bs
-hashes_chars n bs u = begins_with-chars (hashes n) bs (hashes_low n) u
-
 pub hash_is_ascii : OnlyAscii is_hash
 hash_is_ascii c high = grind (arith, nat_tests)
+
+pub hashes_dropped : (t : List ℕ) → after_hashes t ≡ drop (hash_len t) t
+hashes_dropped [] = refl
+hashes_dropped (c ∷ t) = ap (λ (l : List ℕ). if is_hash c then l else (c ∷ t)) (hashes_dropped t) ∙ sym (drop_passed is_hash c t)
 
 -- quotes
 
@@ -82,13 +65,8 @@ line_ends c t h = grind arith
 line_goes_on : (c : ℕ) (t : List ℕ) → (c == 10) ≡ false → first_line (c ∷ t) ≡ c ∷ first_line t
 line_goes_on c t h = grind arith
 
-take_drop_length : (n : ℕ) (t : List ℕ) → take n t ++ drop (length (take n t)) t ≡ t
-take_drop_length zero t = refl
-take_drop_length (suc n) [] = refl
-take_drop_length (suc n) (c ∷ t) = ap (λ (l : List ℕ). c ∷ l) (take_drop_length n t)
-
 line_spelt : (t : List ℕ) → first_line t ++ drop (length (first_line t)) t ≡ t
-line_spelt t = take_drop_length (prefix_len (λ y. not (y == 10)) t) t
+line_spelt t = take_while-append-rest (λ y. not (y == 10)) t
 
 -- within the line, and after it
 abbrev in_line : Bool → List ℕ → List ℕ → List ℕ
@@ -96,10 +74,7 @@ in_line e line t = past_quote 39 e line ++ drop (length line) t
 
 line_case : (e : Bool) (c : ℕ) (t : List ℕ) → first_line t ++ drop (length (first_line t)) t ≡ t → past_single_quote ((c == 92) && not e) t ≡ in_line ((c == 92) && not e) (first_line t) t →
     past_single_quote e (c ∷ t) ≡ in_line e (first_line (c ∷ t)) (c ∷ t)
-line_case e c t whole rest = elim (cases_Bool (c == 10)) [
-  | inl h ↦ rw (line_ends c t h, h) refl
-  | inr h ↦ rw (line_goes_on c t h, h) (grind arith)
-]
+line_case e c t whole rest = grind (arith, nat_tests, cases_Bool, line_ends, line_goes_on)
 
 past_line_is : (e : Bool) (t : List ℕ) → past_single_quote e t ≡ in_line e (first_line t) t
 past_line_is e [] = refl
@@ -114,33 +89,22 @@ pub digits_passed : (f x : List ℕ) → list_all is_decimal_char f ≡ true →
 digits_passed f x all stop = drop_at f x (prefix_len is_decimal_char (f ++ x)) (sym (prefix_len_front is_decimal_char f x all stop))
 
 fraction_none : (p x : List ℕ) → is_exponent_front p ≡ true → (p ≡ [] → first_passes is_period x ≡ false) → after_fraction (p ++ x) ≡ p ++ x
-fraction_none [] x front none = (let h = none refl in grind arith)
-fraction_none (c ∷ p) x front none = if_false (is_period c) (after_digits (p ++ x)) (c ∷ (p ++ x)) (letter_period c (and_parts _ _ front).0)
+fraction_none p x front none = grind (arith, letter_period)
 
 fraction_passed : (f : Option (List ℕ)) (p x : List ℕ) → fraction_passes f ≡ true → is_exponent_front p ≡ true → first_passes is_decimal_char x ≡ false →
     (f ≡ None → p ≡ [] → first_passes is_period x ≡ false) → after_fraction (fraction_text f ++ (p ++ x)) ≡ p ++ x
-fraction_passed None p x passes front stop none = fraction_none p x front (none refl)
-fraction_passed (Some f) p x passes front stop none = digits_passed f (p ++ x) passes (exponent_stops p x front stop)
+fraction_passed f p x passes front stop none = grind (arith, fraction_none, digits_passed, exponent_stops)
 
 number_passed : (cs x : List ℕ) → list_all is_decimal_char (drop (sign_len cs) cs) ≡ true → first_passes is_decimal_char x ≡ false → (cs ≡ [] → first_passes is_sign x ≡ false) →
     after_digits (after_sign (cs ++ x)) ≡ x
-number_passed [] [] all stop none = refl
-number_passed [] (d ∷ x) all stop none = ap after_digits (if_false (is_sign d) x (d ∷ x) (none refl)) ∙ digits_passed [] (d ∷ x) refl stop
-number_passed (s ∷ ds) x all stop none = grind (arith, digits_passed ds x, digits_passed (s ∷ ds) x)
+number_passed cs x all stop none = grind (arith, digits_passed)
 
 exponent_passed : (p x : List ℕ) → is_exponent_front p ≡ true → first_passes is_decimal_char x ≡ false → (p ≡ [] → first_passes is_e x ≡ false) →
     ((c : ℕ) → p ≡ c ∷ [] → first_passes is_sign x ≡ false) → after_exponent (p ++ x) ≡ x
-exponent_passed [] x front stop none sign = (let h = none refl in grind arith)
-exponent_passed (c ∷ cs) x front stop none sign =
-    let parts = and_parts (is_e c) _ front in
-    if_true (is_e c) (after_digits (after_sign (cs ++ x))) (c ∷ (cs ++ x)) parts.0
-    ∙ number_passed cs x parts.1 stop (λ e. sign c (ap (λ (t : List ℕ). c ∷ t) e))
+exponent_passed p x front stop none sign = grind (arith, number_passed)
 
 parts_passed : (d : FloatParts) → IsCut d → after_exponent (after_fraction (after_digits (float_text d))) ≡ d.suffix
-parts_passed d cut =
-    ap (λ (t : List ℕ). after_exponent (after_fraction t)) (after_decimals d cut)
-    ∙ (ap after_exponent (fraction_passed d.fraction d.exponent d.suffix cut.fraction cut.exponent cut.stops cut.no_period)
-    ∙ exponent_passed d.exponent d.suffix cut.exponent cut.stops cut.no_letter cut.no_sign)
+parts_passed d cut = grind (arith, after_decimals, fraction_passed, exponent_passed)
 
 pub number_parts : (t : List ℕ) → after_number t ≡ after_exponent (after_fraction (after_digits t))
 number_parts t =

@@ -1,18 +1,12 @@
 -- The text after the piece that begins at the front of a text is an end of the text, without its
 -- first character, and stays the same before more text.
-use Rattle.std.proofs.Common.{◌≡◌, ℕ, ◌-◌, ◌<◌, ◌≤◌, Bool, true, false, not, ◌&&◌, List, [], ◌∷◌, ◌++◌, take, drop, length, refl, sym, ap, subst, ◌∙◌, ◌+◌, length-append, arith, ◌⊎◌, inl, inr, zero, suc, ◌==◌, if◌then◌else◌}
-use Rattle.litrs_prefix.specs.Words.{encode_utf8_all, is_ascii_digit, chars, IsUtf8, IsCharBoundary, byte_len, begins_with, first_passes, is_empty, is_decimal_char, starts_identifier, IsEndOf, past_quote, past_single_quote, after_digits, after_fraction, after_exponent, after_sign, after_quoted, after_single_quote, after_char, after_raw, after_prefixed, after_number, after_opened, IsMeant, after_closing, after_body, first_name, after_name, after_hashes, opens, after_run, is_single_quote, begins_lifetime, opens_raw, opens_bytes, opens_c_string, is_xid_continue, is_bool, is_quote, hash_len, raw_closing, is_quoted_line_feed, first_run}
-use Rattle.std.proofs.lemmas.Bool.{false≢true, and_right, true≢false}
-use Rattle.std.proofs.lemmas.Bool.Decides.{nat_tests}
-use Rattle.std.proofs.lemmas.List.{take-append-drop, drop_all}
-use Rattle.unicode_ident.proofs.IdentLemmas.{is_xid_start-ascii, is_xid_continue-ascii}
-use Rattle.litrs_base.proofs.ListTests.{if_true, if_false}
-use Rattle.litrs_prefix.proofs.Ends.{all as whole, bytes_spell, end_at, end_of_end, front_is, shorter}
+use Rattle.litrs_prefix.proofs.Words.{◌≡◌, ℕ, ◌-◌, ◌<◌, ◌≤◌, Bool, true, false, not, ◌&&◌, List, [], ◌∷◌, ◌++◌, take, drop, length, refl, sym, ap, subst, ◌∙◌, ◌+◌, length-append, arith, ◌⊎◌, inl, inr, zero, suc, ◌==◌, if◌then◌else◌, false≢true, and_right, true≢false, nat_tests, take-append-drop, drop_all, is_xid_start-ascii, is_xid_continue-ascii, if_true, if_false, bytes_spell, end_at, end_of_end, front_is, shorter, length-hashes}
+use Rattle.litrs_prefix.specs.Words.{encode_utf8_all, is_ascii_digit, chars, IsUtf8, IsCharBoundary, byte_len, begins_with, first_passes, is_empty, is_decimal_char, starts_identifier, IsEndOf, past_closing, past_single_quote, after_digits, after_fraction, after_exponent, after_sign, after_quoted, after_single_quote, after_char, after_raw, after_prefixed, after_number, after_opened, IsMeant, after_closing, after_body, first_name, after_name, after_hashes, opens, after_run, is_single_quote, begins_lifetime, opens_raw, opens_bytes, opens_c_string, is_xid_continue, is_bool, is_quote, hash_len, raw_closing, is_quoted_line_feed, first_run}
+use Rattle.litrs_prefix.proofs.Ends.{all as whole}
 use Rattle.litrs_prefix.proofs.Meant.{number_parts, past_quote_is, past_single_quote_is, closing_here, closing_later}
 use Rattle.litrs_prefix.proofs.MeantPieces.{meant_first}
 use Rattle.litrs_prefix.proofs.Names.{name_and_rest, run_and_rest, Opening, opening}
 use Rattle.litrs_prefix.proofs.Names.Opening.{digit, double, single, raw, bytes, c_string, word_true, word_false}
-use Rattle.litrs_grammar.proofs.RawCuts.{length-hashes}
 
 -- of a text with one character more, one of two ends
 pub next : (c : ℕ) (t x : List ℕ) → IsEndOf t x → IsEndOf (c ∷ t) x
@@ -25,20 +19,16 @@ either false t x y h g = g
 pub after_drop : (n : ℕ) (t : List ℕ) → IsEndOf t (drop n t)
 after_drop n t = (take n t, take-append-drop n t)
 
-pub past_end : (quote : ℕ) (escaped : Bool) (t : List ℕ) → IsEndOf t (past_quote quote escaped t)
-past_end quote escaped [] = whole []
-past_end quote escaped (c ∷ t) = either _ _ _ _ (next c t t (whole t)) (next c t _ (past_end quote ((c == 92) && not escaped) t))
-
-pub past_single_end : (escaped : Bool) (t : List ℕ) → IsEndOf t (past_single_quote escaped t)
-past_single_end escaped [] = whole []
-past_single_end escaped (c ∷ t) =
-    either _ _ _ _ (whole (c ∷ t)) (either _ _ _ _ (next c t t (whole t)) (next c t _ (past_single_end ((c == 92) && not escaped) t)))
+past_end : (quote : ℕ) (in_line escaped : Bool) (t : List ℕ) → IsEndOf t (past_closing quote in_line escaped t)
+past_end quote in_line escaped [] = whole []
+past_end quote in_line escaped (c ∷ t) =
+    either _ _ _ _ (whole (c ∷ t)) (either _ _ _ _ (next c t t (whole t)) (next c t _ (past_end quote in_line ((c == 92) && not escaped) t)))
 
 quoted_end : (t : List ℕ) → IsEndOf t (after_quoted t)
-quoted_end t = subst (λ (l : List ℕ). IsEndOf t l) (past_quote_is 34 refl t) (past_end 34 false t)
+quoted_end t = subst (λ (l : List ℕ). IsEndOf t l) (past_quote_is 34 refl t) (past_end 34 false false t)
 
 single_end : (t : List ℕ) → IsEndOf t (after_single_quote t)
-single_end t = subst (λ (l : List ℕ). IsEndOf t l) (past_single_quote_is t) (past_single_end false t)
+single_end t = subst (λ (l : List ℕ). IsEndOf t l) (past_single_quote_is t) (past_end 39 true false t)
 
 pub char_end : (t : List ℕ) → IsEndOf t (after_char t)
 char_end [] = whole []
@@ -169,8 +159,7 @@ abbrev Grown : (more x y : List ℕ) → Type 0
 Grown more x y = (y ≡ x ++ more) ⊎ ((x ≡ []) × IsEndOf more y)
 
 both_grow : (m : List ℕ) (v : Bool) (x y a b : List ℕ) → Grown m x a → Grown m y b → Grown m (if v then x else y) (if v then a else b)
-both_grow m true x y a b h g = h
-both_grow m false x y a b h g = g
+both_grow m v x y a b h g = grind arith
 
 same : (m : List ℕ) {x y a b : List ℕ} → x ≡ y → a ≡ b → Grown m x a → Grown m y b
 same m {x} {y} {a} {b} h g is = subst (λ (l : List ℕ). Grown m l b) h (subst (λ (l : List ℕ). Grown m x l) g is)
@@ -238,20 +227,16 @@ name_taken (c ∷ t) h = grind (arith, run_whole t (120 ∷ []), x_goes_on)
 
 -- quotes
 
-past_grows : (e : Bool) (t m : List ℕ) → Grown m (past_quote 34 e t) (past_quote 34 e (t ++ m))
-past_grows e [] m = inr (refl, past_end 34 e m)
-past_grows e (c ∷ t) m = both_grow m _ _ _ _ _ (inl refl) (past_grows ((c == 92) && not e) t m)
+past_grows : (q : ℕ) (line e : Bool) (t m : List ℕ) → Grown m (past_closing q line e t) (past_closing q line e (t ++ m))
+past_grows q line e [] m = inr (refl, past_end q line e m)
+past_grows q line e (c ∷ t) m =
+    both_grow m (line && (c == 10)) (c ∷ t) _ _ _ (inl refl) (both_grow m ((c == q) && not e) t _ _ _ (inl refl) (past_grows q line ((c == 92) && not e) t m))
 
 quoted_grows : (t m : List ℕ) → Grown m (after_quoted t) (after_quoted (t ++ m))
-quoted_grows t m = same m (past_quote_is 34 refl t) (past_quote_is 34 refl (t ++ m)) (past_grows false t m)
-
-past_single_grows : (e : Bool) (t m : List ℕ) → Grown m (past_single_quote e t) (past_single_quote e (t ++ m))
-past_single_grows e [] m = inr (refl, past_single_end e m)
-past_single_grows e (c ∷ t) m =
-    both_grow m (c == 10) (c ∷ t) _ _ _ (inl refl) (both_grow m ((c == 39) && not e) t _ _ _ (inl refl) (past_single_grows ((c == 92) && not e) t m))
+quoted_grows t m = same m (past_quote_is 34 refl t) (past_quote_is 34 refl (t ++ m)) (past_grows 34 false false t m)
 
 single_grows : (t m : List ℕ) → Grown m (after_single_quote t) (after_single_quote (t ++ m))
-single_grows t m = same m (past_single_quote_is t) (past_single_quote_is (t ++ m)) (past_single_grows false t m)
+single_grows t m = same m (past_single_quote_is t) (past_single_quote_is (t ++ m)) (past_grows 39 true false t m)
 
 -- a single character, which is not a line feed, is passed
 one_char : (c : ℕ) → (c ∷ [] ≡ 10 ∷ [] → ⊥) → past_single_quote false (c ∷ []) ≡ []
@@ -368,10 +353,7 @@ x_end (c ∷ f) [] is = refl
 x_end (c ∷ f) (d ∷ y) is = absurd (omega (arith, ap length is, length-append f (d ∷ y)))
 
 pub letter_is_taken : (t : List ℕ) → opens t ≡ true → after_opened t ≡ [] → after_opened (t ++ 120 ∷ []) ≡ []
-letter_is_taken t h none = elim (body_grows (opening t h) (120 ∷ []) (λ q. absurd (false≢true q))) [
-  | inl is ↦ ap after_name is ∙ name_taken (after_body t) (ap is_empty none)
-  | inr is ↦ x_end is.1.0 _ is.1.1
-]
+letter_is_taken t h none = grind (arith, body_grows, opening, name_taken, x_end)
 
 -- a literal begins
 

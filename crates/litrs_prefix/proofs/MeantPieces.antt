@@ -1,7 +1,6 @@
 -- The pieces at the front of a text, from what opens on, one character after the other.
-use Rattle.std.proofs.Common.{◌≡◌, inl, inr, ℕ, List, [], ◌∷◌, ◌++◌, refl, sym, ap, subst, ◌∙◌, append_assoc, append-nil}
+use Rattle.litrs_prefix.proofs.Words.{◌≡◌, inl, inr, ℕ, List, [], ◌∷◌, ◌++◌, refl, sym, ap, subst, ◌∙◌, append_assoc, append-nil, append_cancel_left, append_cancel_right}
 use Rattle.litrs_prefix.specs.Words.{byte_len, Derivation, IsLiteral, literal_parse, MalformedAreUnique, after_opened, IsMeant, HasNoDerivation, refusal_of, IsRefusal}
-use Rattle.std.proofs.lemmas.List.{append_cancel_left, append_cancel_right}
 use Rattle.litrs_grammar.proofs.LongerTexts.Suffix.{front_of}
 
 abbrev pub Holds : (List ℕ → Type 0) → List ℕ → Type 0

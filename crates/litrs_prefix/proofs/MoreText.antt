@@ -1,5 +1,6 @@
 -- Texts that more text may give another literal at the front.
-use Rattle.litrs_prefix.proofs.Words.{◌≡◌, ◌⊎◌, inl, inr, ℕ, Bool, true, false, List, [], ◌∷◌, ◌++◌, refl, sym, ap, subst, ◌∙◌, append_assoc, arith, list_all, is_empty, IntegerParts, IsIntegerOf, Derivation, an_integer, IsLiteral, literal_parse, may_follow, HasPrefix, PrefixGoesOn, IsIntegerAndPeriod, is_scalar, IsText, Begins, and_parts, true≢false, nat_tests, append_cancel_left, append_cancel_right, list_all-append, is_xid_start-ascii, front_of}
+use Rattle.litrs_prefix.proofs.Words.{◌≡◌, ◌⊎◌, inl, inr, ℕ, Bool, true, false, List, [], ◌∷◌, ◌++◌, refl, sym, ap, subst, ◌∙◌, append_assoc, arith, list_all, is_empty, IntegerParts, IsIntegerOf, Derivation, an_integer, IsLiteral, literal_parse, may_follow, HasPrefix, PrefixGoesOn, IsIntegerAndPeriod, is_scalar, IsText, Begins, and_parts, true≢false, nat_tests, append_cancel_left, append_cancel_right, is_xid_start-ascii, front_of}
+use Rattle.std.proofs.lemmas.List.Folds.{list_all-append}
 use Rattle.litrs_prefix.specs.GoesOn.{IsSettled}
 use Rattle.litrs_prefix.proofs.LongerTexts.{whole, stays}
 use Rattle.litrs_prefix.proofs.Unique.{unique}

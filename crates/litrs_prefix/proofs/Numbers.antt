@@ -1,11 +1,6 @@
 -- Numbers, and the rest before which they end.
-use Rattle.std.proofs.Common.{◌≡◌, ℕ, Bool, true, false, not, ◌&&◌, ◌||◌, List, [], ◌∷◌, ◌++◌, length, drop, Option, Some, None, refl, sym, ap, ◌∙◌, subst, arith, append_assoc, ◌==◌}
-use Rattle.litrs_prefix.specs.Words.{is_ascii_digit, prefix_len, list_all, first_passes, is_empty, starts_identifier, IntegerParts, IsIntegerOf, is_e, IsFloatOf, is_period, is_decimal_char, ends_suffix, ends_integer, ends_float, is_bare, gives_period, is_ascii_alphabetic, take_while, IntegerBase, Decimal, prefix, is_digit_or_underscore, is_suffix, IsInteger, has_prefix, base_of, integer_cut, FloatParts, float_text, fraction_text, is_exponent, is_float_form, is_decimal_literal}
-use Rattle.std.proofs.lemmas.Bool.{and_parts, and_left, or_left, or_from, not-true, false≢true}
-use Rattle.std.proofs.lemmas.Bool.Decides.{nat_tests}
-use Rattle.std.proofs.lemmas.List.{drop_at}
-use Rattle.unicode_ident.proofs.IdentLemmas.{is_xid_start-ascii}
-use Rattle.litrs_grammar.proofs.Laws.Integer.{cut_with, integer_cut-is, take_while_front}
+use Rattle.litrs_prefix.proofs.Words.{◌≡◌, ℕ, Bool, true, false, not, ◌&&◌, ◌||◌, List, [], ◌∷◌, ◌++◌, drop, Option, None, refl, sym, ap, ◌∙◌, subst, arith, append_assoc, ◌==◌, and_parts, and_left, or_from, not-true, false≢true, nat_tests, drop_at, is_xid_start-ascii, cut_with, integer_cut-is, take_while_front}
+use Rattle.litrs_prefix.specs.Words.{is_ascii_digit, prefix_len, list_all, first_passes, is_empty, starts_identifier, IntegerParts, IsIntegerOf, is_e, IsFloatOf, is_period, is_decimal_char, ends_suffix, ends_integer, ends_float, is_bare, gives_period, is_ascii_alphabetic, IntegerBase, Decimal, prefix, is_digit_or_underscore, is_suffix, IsInteger, has_prefix, base_of, integer_cut, FloatParts, float_text, fraction_text, is_exponent, is_float_form}
 use Rattle.litrs_grammar.proofs.Laws.Float.{float_is_cut, suffix_no_period}
 use Rattle.litrs_grammar.proofs.FloatCuts.{IsCut, after_decimals}
 use Rattle.litrs_prefix.proofs.Meant.{digits_passed}
@@ -47,18 +42,11 @@ decimal_base t none = grind arith
 
 base_stays : (base : IntegerBase) (m x r : List ℕ) → IsInteger (record { base = base; main = m; suffix = x }) → ends_suffix x r ≡ true →
     base_of (prefix base ++ (m ++ (x ++ r))) ≡ base
-base_stays Decimal m x r g e = decimal_base (m ++ (x ++ r)) (prefix_stays m x r (g.decimal_digit refl) (g.decimal_prefix refl) e)
-base_stays base m x r g e = refl
+base_stays base m x r g e = grind (arith, decimal_base, prefix_stays)
 
 cut_longer : (base : IntegerBase) (m y : List ℕ) → list_all (is_digit_or_underscore base) m ≡ true → first_passes (is_digit_or_underscore base) y ≡ false →
     cut_with base (prefix base ++ (m ++ y)) ≡ record { base = base; main = m; suffix = y }
-cut_longer base m y digits ends =
-    let p = is_digit_or_underscore base in
-    let after : drop (length (prefix base)) (prefix base ++ (m ++ y)) ≡ m ++ y = drop_at (prefix base) (m ++ y) (length (prefix base)) refl in
-    let main : take_while p (m ++ y) ≡ m = take_while_front p m y digits ends in
-    ap (λ (u : List ℕ). record { base = base; main = take_while p u; suffix = drop (length (take_while p u)) u }) after
-    ∙ (ap (λ (n : List ℕ). record { base = base; main = n; suffix = drop (length n) (m ++ y) }) main
-    ∙ ap (λ (x : List ℕ). record { base = base; main = m; suffix = x }) (drop_at m y (length m) refl))
+cut_longer base m y digits ends = grind (arith, drop_at, take_while_front)
 
 pub longer_integer : (s r : List ℕ) (d : IntegerParts) → IsIntegerOf s d → s ++ r ≡ prefix d.base ++ (d.main ++ (d.suffix ++ r))
 longer_integer s r d h = ap (λ (l : List ℕ). l ++ r) (sym h.spells) ∙ simp append_assoc
@@ -132,8 +120,7 @@ integer_no_mark (c ∷ x) r h g e f = or_from _ _ g (and_left (is_period c) _ (s
 
 base_no_mark : (base : IntegerBase) (m y : List ℕ) → list_all (is_digit_or_underscore base) m ≡ true → first_passes (is_digit_or_underscore base) y ≡ false → is_mark y ≡ false →
     has_mark (prefix base ++ (m ++ y)) ≡ false
-base_no_mark Decimal m y digits ends none = ap is_mark (digits_passed m y digits ends) ∙ none
-base_no_mark base m y digits ends none = refl
+base_no_mark base m y digits ends none = grind (arith, nat_tests, digits_passed)
 
 pub integer_mark : (s r : List ℕ) (d : IntegerParts) → IsIntegerOf s d → ends_suffix d.suffix r ≡ true → ends_integer d r ≡ true → has_mark (s ++ r) ≡ false
 integer_mark s r d h e f =
@@ -148,12 +135,7 @@ digit_no_name c h = grind (arith, nat_tests, is_xid_start-ascii)
 form_mark : (f : Option (List ℕ)) (p x r : List ℕ) → is_float_form f p x ≡ true → ends_suffix x r ≡ true → not (first_passes is_period r && is_bare f) ≡ true →
     is_mark (fraction_text f ++ (p ++ (x ++ r))) ≡ true
 unfolding is_exponent
-form_mark None [] x r h e g = absurd (false≢true h)
-form_mark None (c ∷ p) x r h e g = or_left (is_e c) _ (and_parts _ _ h).0
-form_mark (Some (c ∷ f)) p x r h e g = ap not (digit_no_name c (and_parts (first_passes is_ascii_digit (c ∷ f)) (list_all is_decimal_char (c ∷ f)) (and_parts (is_decimal_literal (c ∷ f)) (is_empty p || is_exponent p) h).0).0)
-form_mark (Some []) [] [] r h e g = grind arith
-form_mark (Some []) [] (c ∷ x) r h e g = absurd (false≢true h)
-form_mark (Some []) (c ∷ p) x r h e g = absurd (false≢true h)
+form_mark f p x r h e g = grind (arith, nat_tests, digit_no_name)
 
 pub float_mark : (s r : List ℕ) (d : FloatParts) → IsFloatOf s d → ends_suffix d.suffix r ≡ true → ends_float d r ≡ true → has_mark (s ++ r) ≡ true
 float_mark s r d h e f =

@@ -1,9 +1,7 @@
 -- A string without a backslash at the front of a text.
-use Rattle.std.proofs.Common.{◌≡◌, ℕ, suc, ◌+◌, true, false, not, List, [], ◌∷◌, None, length, drop, take, sym, ap, subst, ◌∙◌, arith}
+use Rattle.litrs_prefix.proofs.Words.{◌≡◌, ℕ, suc, ◌+◌, true, false, not, List, [], ◌∷◌, None, length, drop, take, sym, ap, subst, ◌∙◌, arith, length-take-le, chars-nil, IsUtf8-take}
 use Rattle.litrs_prefix.specs.Words.{chars, IsUtf8, IsCharBoundary, is_xid_continue, begins_with, first_passes, is_quote, HasPrefix, ends_suffix, IsOnlyDerivation, string_kind, StringParts, IsString, string_suffix, a_string, IsPlainString}
 use Rattle.std.proofs.Math.Seq.{drop-length}
-use Rattle.std.proofs.lemmas.List.{length-take-le}
-use Rattle.std.proofs.lemmas.Str.{chars-nil, IsUtf8-take}
 use Rattle.litrs_base.specs.Quotes.{string_switches}
 use Rattle.litrs_lex.specs.QuotedCut.{IsQuotedValue}
 use Rattle.litrs_lex.specs.QuotedItems.{IsPlainBody}

@@ -1,8 +1,10 @@
 -- The ends of literals, as the code finds them.
-use Rattle.std.specs.Prelude.{◌≡◌, ℕ, Bool, not, ◌==◌, ◌&&◌, List, [], ◌∷◌, ◌++◌, drop, if◌then◌else◌, IsTrue}
+use Rattle.std.specs.Prelude.{◌≡◌, ℕ, Bool, true, false, not, ◌==◌, ◌&&◌, List, [], ◌∷◌, ◌++◌, drop, if◌then◌else◌, IsTrue, IsFalse}
 use Rattle.std.specs.List.{prefix_len}
 use Rattle.std.specs.Str.{chars, IsUtf8, IsCharBoundary}
+use Rattle.unicode_ident.specs.Ident.{is_xid_continue}
 use Rattle.litrs_base.specs.Characters.{single_quote, backslash, line_feed}
+use Rattle.litrs_base.specs.Text.{first_passes}
 use Rattle.litrs_base.specs.declared.quotes.CharKind.{CharKind}
 use Rattle.litrs_grammar.specs.CharByte.{CharItem, char_item_text, is_char_item}
 use Rattle.litrs_grammar.specs.Float.{is_decimal_char, is_period, is_sign}
@@ -33,20 +35,22 @@ abbrev pub after_exponent : List ℕ → List ℕ
 after_exponent [] = []
 after_exponent (c ∷ t) = if is_e c then after_digits (after_sign t) else (c ∷ t)
 
--- The text after the first quote that is not escaped. The first character may be escaped.
-abbrev pub past_quote : (quote : ℕ) (escaped : Bool) → List ℕ → List ℕ
-past_quote quote escaped [] = []
-past_quote quote escaped (c ∷ t) =
-    if (c == quote) && not escaped then t
-    else past_quote quote ((c == backslash) && not escaped) t
+-- The text after the first quote that is not escaped, or nothing if there is none. If `in_line`, the
+-- text after the line if there is none in it. The first character may be escaped.
+abbrev pub past_closing : (quote : ℕ) (in_line escaped : Bool) → List ℕ → List ℕ
+past_closing quote in_line escaped [] = []
+past_closing quote in_line escaped (c ∷ t) =
+    if in_line && (c == line_feed) then c ∷ t
+    else if (c == quote) && not escaped then t
+    else past_closing quote in_line ((c == backslash) && not escaped) t
 
--- Like `past_quote`, within the line, or the text after the line.
+-- Like `past_closing`, in the whole text.
+abbrev pub past_quote : (quote : ℕ) (escaped : Bool) → List ℕ → List ℕ
+past_quote quote = past_closing quote false
+
+-- Like `past_closing`, for a `'` in the line.
 abbrev pub past_single_quote : (escaped : Bool) → List ℕ → List ℕ
-past_single_quote escaped [] = []
-past_single_quote escaped (c ∷ t) =
-    if c == line_feed then c ∷ t
-    else if (c == single_quote) && not escaped then t
-    else past_single_quote ((c == backslash) && not escaped) t
+past_single_quote = past_closing single_quote true
 
 -- The rest starts at this place of the text with these bytes.
 abbrev pub EndsBefore : (bytes rest : List ℕ) → ℕ → Type 0
@@ -57,15 +61,13 @@ pub record IsItemBefore (kind : CharKind) (bytes rest : List ℕ) : Type 0 where
   pub item : CharItem
   pub grammar : IsTrue (is_char_item kind item)
   pub spells : char_item_text item ++ chars rest ≡ chars bytes
-  pub end : IsEndOf bytes rest
-  pub utf8 : IsUtf8 rest
 
--- The text with these bytes has a literal at its front, and this rest.
-pub record HasLiteralBefore (bytes rest : List ℕ) : Type 0 where
-  pub end : IsEndOf bytes rest
+-- A literal is at the front of the text with these bytes, before this rest, if the rest does not
+-- continue a name.
+pub record IsPlainEnd (bytes rest : List ℕ) : Type 0 where
   pub utf8 : IsUtf8 rest
-  pub literal : Derivation
-  pub at_front : HasPrefix (chars bytes) literal (chars rest)
+  pub literal : IsFalse (first_passes is_xid_continue (chars rest)) →
+      (d : Derivation) × HasPrefix (chars bytes) d (chars rest)
 
 -- Each literal at the front of the text has this rest.
 abbrev pub IsOnlyRest : (t rest : List ℕ) → Type 0

@@ -69,8 +69,8 @@ pub use Rattle.litrs.specs.IntegerLiteral.{integer_parts}
 pub use Rattle.litrs.specs.LiteralDerivation.{derivation, literal_raw}
 pub use Rattle.litrs.specs.StringLiteral.{IsPlainString}
 pub use Rattle.litrs_prefix.specs.Ends.{IsOnlyRest, IsEndOf, after_digits, after_exponent}
-pub use Rattle.litrs_prefix.specs.Ends.{after_fraction, after_sign, IsItemBefore, HasLiteralBefore}
-pub use Rattle.litrs_prefix.specs.Ends.{past_quote, past_single_quote, EndsBefore}
+pub use Rattle.litrs_prefix.specs.Ends.{after_fraction, after_sign, IsItemBefore, IsPlainEnd}
+pub use Rattle.litrs_prefix.specs.Ends.{past_closing, past_quote, past_single_quote, EndsBefore}
 pub use Rattle.litrs_prefix.specs.Extent.{IsLiteralLen, IsMalformedLen, IsJudged, IsJudgedBy}
 pub use Rattle.litrs_prefix.specs.GoesOn.{IsBareInteger, IsIntegerAndPeriod, PrefixGoesOn}
 pub use Rattle.litrs_prefix.specs.Laws.{LiteralsAreTheirPrefix, PrefixesStay, PrefixesAreUnique}

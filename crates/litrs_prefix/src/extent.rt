@@ -2,13 +2,13 @@
 ghost use Rattle.std.specs.Prelude.{◌<◌};
 ghost use Rattle.litrs_prefix.specs.Words.{drop, take, IsTrue, IfOk, IfErr, IfSome, IfNone, chars, IsCharBoundary, Derivation, IsOnlyRest, IsLiteralLen, IsMalformedLen, after_opened, IsMeant, opens, HasPrefix, HasNoPrefix};
 
-use crate::follow::{ends_bool, follows};
+use crate::follow::{follows, integer_follows};
 use crate::malformed::after_opened;
 use crate::next_boundary;
-use crate::opening::{bool_len, opens};
-use crate::plain::{char_extent, number_extent, quoted_extent, raw_extent};
-use litrs_base::{CharKind, begins_with_digit};
-use litrs_lex::StringKind;
+use crate::opening::opens;
+use crate::plain::{after_plain, ends_name};
+use litrs_base::begins_with_digit;
+use litrs_lex::{Run, run_end};
 
 /// Returns the length in bytes of the literal at the front of `text`, suffix included, or `None` if
 /// there is none, malformed or not. It does not allocate: the value of the literal is not made.
@@ -54,26 +54,33 @@ pub fn opened_extent(text: &str) -> Result<usize, usize>
     ensures literal { IfOk result (IsLiteralLen text.now) }
     ensures malformed { IfErr result (IsMalformedLen text.now) }
 {
-    if begins_with_digit(text) {
-        return number_extent(text);
+    match after_plain(text) {
+        Some(rest) if ends_name(rest) => Ok(text.len() - rest.len()),
+        _ if begins_with_digit(text) => word_extent(text),
+        _ => judged_extent(text),
     }
-    match text.as_bytes() {
-        [b'"', ..] => quoted_extent(text, StringKind::String),
-        [b'\'', ..] => char_extent(text, 1, CharKind::Char),
-        [b'r', ..] => raw_extent(text, StringKind::String),
-        [b'b', b'\'', ..] => char_extent(text, 2, CharKind::Byte),
-        [b'b', b'"', ..] => quoted_extent(text, StringKind::ByteString),
-        [b'b', b'r', ..] => raw_extent(text, StringKind::ByteString),
-        _ => match bool_len(text) {
-            Some(len) if ends_bool(&text[len..]) => Ok(len),
-            _ => judged_extent(text),
-        },
+}
+
+/// Like [`opened_extent`], for a number. An integer, such as `0xFF` and `1u32`, ends with the ASCII
+/// characters of a name at the front.
+#[inline(never)]
+fn word_extent(text: &str) -> Result<usize, usize>
+    requires { IsTrue (opens (chars text.now)) }
+    ensures literal { IfOk result (IsLiteralLen text.now) }
+    ensures malformed { IfErr result (IsMalformedLen text.now) }
+{
+    let len = run_end(text.as_bytes(), Run::Identifier);
+    let (front, rest) = text.split_at(len);
+    match integer_follows(front, rest) {
+        Some(true) => Ok(len),
+        Some(false) => judged_extent(text),
+        None => judged_extent(text),
     }
 }
 
 /// Like [`opened_extent`], for a text in which a literal can only end where what opens ends.
 #[inline(never)]
-pub(crate) fn judged_extent(text: &str) -> Result<usize, usize>
+fn judged_extent(text: &str) -> Result<usize, usize>
     requires opens { IsTrue (opens (chars text.now)) }
     requires only { IsOnlyRest (chars text.now) (after_opened (chars text.now)) }
     ensures literal { IfOk result (IsLiteralLen text.now) }

@@ -1,9 +1,8 @@
 //! Tests of a piece of a text: it is a literal, and the rest may follow it.
 ghost use Rattle.std.specs.Prelude.{◌≡◌, ◌&&◌};
-ghost use Rattle.litrs_prefix.specs.Words.{chars, first_passes, is_period, float_parts, integer_parts, derivation, is_of_suffix, ends_suffix, ends_bool, keeps_period, gives_period, ends_integer, is_bare, ends_float, may_follow, IsTrue, begins_with, quoted_front, raw_front, IsFloatOf, IsIntegerOf, begins_float, IsQuotedLiteral, IsRawLiteral, IsFront, IsJudged, IsJudgedBy};
+ghost use Rattle.litrs_prefix.specs.Words.{chars, float_parts, integer_parts, derivation, ends_suffix, ends_bool, keeps_period, gives_period, ends_integer, is_bare, ends_float, may_follow, IsTrue, begins_with, quoted_front, raw_front, IsFloatOf, IsIntegerOf, IsQuotedLiteral, IsRawLiteral, IsFront, IsJudged, IsJudgedBy};
 
-use crate::malformed::after_digits;
-use crate::opening::{begins_name, is_empty};
+use crate::opening::{begins_name, begins_with, is_empty};
 use litrs::{FloatLit, IntegerLit, Literal};
 use litrs_base::{begins_with_digit, split_first_char};
 use litrs_lex::{Front, StringKind, cut_byte, cut_char, cut_quoted, scan_raw_string};
@@ -37,21 +36,10 @@ fn number_follows(front: &str, rest: &str) -> Option<bool>
     requires { IsFront Front.Number front.now }
     ensures { IsJudged result (chars front.now) (chars rest.now) }
 {
-    if begins_float(front) {
-        float_follows(front, rest)
-    } else {
-        integer_follows(front, rest)
+    match float_follows(front, rest) {
+        Some(ends) => Some(ends),
+        None => integer_follows(front, rest),
     }
-}
-
-/// Returns `true` if `front` is parsed as a float: a period, `e` or `E` follows its digits.
-fn begins_float(front: &str) -> bool
-    ensures { result ≡ begins_float (chars front.now) }
-{
-    matches!(
-        split_first_char(after_digits(front)),
-        Some(('.' | 'e' | 'E', _))
-    )
 }
 
 /// Like [`follows`], for an integer.
@@ -118,11 +106,7 @@ pub fn may_follow(literal: &Literal<&str>, rest: &str) -> bool
         Literal::Bool(_) => ends_bool(rest),
         Literal::Integer(lit) => ends_suffix(lit.suffix(), rest) && ends_integer(lit, rest),
         Literal::Float(lit) => ends_suffix(lit.suffix(), rest) && ends_float(lit, rest),
-        Literal::Char(lit) => ends_suffix(lit.suffix(), rest),
-        Literal::String(lit) => ends_suffix(lit.suffix(), rest),
-        Literal::Byte(lit) => ends_suffix(lit.suffix(), rest),
-        Literal::ByteString(lit) => ends_suffix(lit.suffix(), rest),
-        Literal::CString(lit) => ends_suffix(lit.suffix(), rest),
+        _ => ends_suffix(literal.suffix(), rest),
     }
 }
 
@@ -130,18 +114,10 @@ pub fn may_follow(literal: &Literal<&str>, rest: &str) -> bool
 pub(crate) fn ends_suffix(suffix: &str, rest: &str) -> bool
     ensures { result ≡ ends_suffix (chars suffix.now) (chars rest.now) }
 {
-    let none = is_empty(suffix);
-    !matches!(split_first_char(rest), Some((c, _)) if is_of_suffix(none, c))
-}
-
-/// Returns `true` if `c` would be part of the suffix, or begin one if there is `none`.
-fn is_of_suffix(none: bool, c: char) -> bool
-    ensures { result ≡ is_of_suffix none c }
-{
-    if none {
-        begins_name(c)
-    } else {
-        is_xid_continue(c)
+    match split_first_char(rest) {
+        Some((c, _)) if is_empty(suffix) => !begins_name(c),
+        Some((c, _)) => !is_xid_continue(c),
+        None => true,
     }
 }
 
@@ -165,7 +141,7 @@ pub(crate) fn ends_integer(lit: &IntegerLit<&str>, rest: &str) -> bool
 pub(crate) fn ends_float(lit: &FloatLit<&str>, rest: &str) -> bool
     ensures { result ≡ ends_float (float_parts lit.now) (chars rest.now) }
 {
-    !begins_with_digit(rest) && !(begins_with_period(rest) && is_bare(lit))
+    !begins_with_digit(rest) && !(begins_with(rest, '.') && is_bare(lit))
 }
 
 /// Returns `true` if `lit` ends with its period.
@@ -175,15 +151,8 @@ fn is_bare(lit: &FloatLit<&str>) -> bool
     matches!(lit.fractional_part(), Some(fraction) if is_empty(fraction))
 }
 
-/// Returns `true` if `text` starts with a period.
-pub(crate) fn begins_with_period(text: &str) -> bool
-    ensures { result ≡ first_passes is_period (chars text.now) }
-{
-    matches!(split_first_char(text), Some((c, _)) if c == '.')
-}
-
 /// Returns `true` if `text` starts with a period that an integer before it would take.
-fn gives_period(text: &str) -> bool
+pub(crate) fn gives_period(text: &str) -> bool
     ensures { result ≡ gives_period (chars text.now) }
 {
     matches!(split_first_char(text), Some((c, after)) if c == '.' && !keeps_period(after))
@@ -191,7 +160,7 @@ fn gives_period(text: &str) -> bool
 
 /// Returns `true` if a period before `text` does not belong to a number, as `text` starts with
 /// another period or with a name.
-pub(crate) fn keeps_period(text: &str) -> bool
+fn keeps_period(text: &str) -> bool
     ensures { result ≡ keeps_period (chars text.now) }
 {
     matches!(split_first_char(text), Some((c, _)) if c == '.' || begins_name(c))

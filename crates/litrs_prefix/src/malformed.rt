@@ -1,13 +1,14 @@
 //! The extent of a literal that may be malformed.
-ghost use Rattle.std.specs.Prelude.{◌≡◌, ◌≤◌};
-ghost use Rattle.litrs_prefix.specs.Words.{ℕ, length, drop, chars, IsEndOf, after_digits, after_exponent, after_fraction, after_sign, after_quoted, after_single_quote, after_char, after_closing, after_raw, after_prefixed, after_number, after_body, after_opened};
+ghost use Rattle.std.specs.Prelude.{◌≡◌, false};
+ghost use Rattle.litrs_prefix.specs.Words.{drop, chars, after_digits, after_exponent, after_fraction, after_sign, past_closing, after_char, after_closing, after_raw, after_prefixed, after_number, after_body, after_opened};
 
 use crate::opening::{
-    after_hashes, after_name, begins_with_single_quote, opens_bytes, opens_c_string, opens_raw,
+    after_hashes, after_name, begins_with, opens_bytes, opens_c_string, opens_raw,
 };
 use litrs_base::{IntegerBase, split_first_char};
-use litrs_lex::hashes::{hash_len, is_inner_quote};
-use litrs_lex::{Run, Special, next_special, run_end};
+use litrs_lex::hashes::hash_len;
+use litrs_lex::raw::body_end;
+use litrs_lex::{Run, StringKind, run_end};
 
 /// Returns the part of `text` after the literal, valid or malformed, that begins at its front:
 /// after the body, its closing, and the name that follows.
@@ -18,12 +19,13 @@ pub fn after_opened(text: &str) -> &str
 }
 
 /// Like [`after_opened`], but returns the suffix too.
+#[tactic(auto, using(crate::proofs::Meant::past_quote_is))]
 fn after_body(text: &str) -> &str
     ensures { chars result.now ≡ after_body (chars text.now) }
 {
     match split_first_char(text) {
         Some((c, _)) if c.is_ascii_digit() => after_number(text),
-        Some((c, rest)) if c == '"' => after_quoted(rest),
+        Some((c, rest)) if c == '"' => after_quote(rest, '"', false),
         Some((c, rest)) if c == '\'' => after_char(rest),
         Some((c, rest)) if c == 'r' && opens_raw(rest) => after_raw(rest),
         Some((c, rest)) if c == 'b' && opens_bytes(rest) => after_prefixed(rest),
@@ -33,11 +35,12 @@ fn after_body(text: &str) -> &str
 }
 
 /// Like [`after_body`], for the text after the `b` or `c` that begins a literal.
+#[tactic(auto, using(crate::proofs::Meant::past_quote_is))]
 fn after_prefixed(text: &str) -> &str
     ensures { chars result.now ≡ after_prefixed (chars text.now) }
 {
     match split_first_char(text) {
-        Some((c, rest)) if c == '"' => after_quoted(rest),
+        Some((c, rest)) if c == '"' => after_quote(rest, '"', false),
         Some((c, rest)) if c == '\'' => after_char(rest),
         Some((_, rest)) => after_raw(rest),
         None => text,
@@ -55,14 +58,13 @@ fn after_number(text: &str) -> &str
 
 /// Returns the part of `text` after the decimal digits and underscores at its front.
 pub(crate) fn after_digits(text: &str) -> &str
-    ensures rest { chars result.now ≡ after_digits (chars text.now) }
-    ensures end { IsEndOf text.now result.now }
+    ensures { chars result.now ≡ after_digits (chars text.now) }
 {
     &text[run_end(text.as_bytes(), Run::Digits(IntegerBase::Decimal))..]
 }
 
 /// Returns the part of `text` after the period at its front and the digits after that.
-fn after_fraction(text: &str) -> &str
+pub(crate) fn after_fraction(text: &str) -> &str
     ensures { chars result.now ≡ after_fraction (chars text.now) }
 {
     match split_first_char(text) {
@@ -93,43 +95,28 @@ fn after_sign(text: &str) -> &str
 
 /// Returns the part of `text` after the closing quote of a char. Its first character may be a quote
 /// or a line feed, if a quote follows.
+#[tactic(auto, using(crate::proofs::Meant::past_single_quote_is))]
 fn after_char(text: &str) -> &str
     ensures { chars result.now ≡ after_char (chars text.now) }
 {
     match split_first_char(text) {
-        Some((c, rest)) if c != '\\' && begins_with_single_quote(rest) => after_first(rest),
-        _ => after_single_quote(text),
+        Some((c, rest)) if c != '\\' && begins_with(rest, '\'') => after_first(rest),
+        _ => after_quote(text, '\'', true),
     }
 }
 
-/// Returns the part of `text` after the first `'` of the line that no backslash escapes, or after
-/// the line if there is none.
-fn after_single_quote(text: &str) -> &str
-    ensures { chars result.now ≡ after_single_quote (chars text.now) }
+/// Returns the part of `text` after the first `quote` that no backslash escapes. If `in_line`, and
+/// there is none in the line, returns the part after the line.
+fn after_quote(text: &str, quote: char, in_line: bool) -> &str
+    ensures { chars result.now ≡ past_closing quote in_line false (chars text.now) }
 {
     let mut rest = text;
     let mut escaped = false;
     while let Some((c, after)) = split_first_char(rest) {
-        if c == '\n' {
+        if in_line && c == '\n' {
             return rest;
         }
-        if c == '\'' && !escaped {
-            return after;
-        }
-        escaped = c == '\\' && !escaped;
-        rest = after;
-    }
-    rest
-}
-
-/// Returns the part of `text` after the first `"` that no backslash escapes.
-fn after_quoted(text: &str) -> &str
-    ensures { chars result.now ≡ after_quoted (chars text.now) }
-{
-    let mut rest = text;
-    let mut escaped = false;
-    while let Some((c, after)) = split_first_char(rest) {
-        if c == '"' && !escaped {
+        if c == quote && !escaped {
             return after;
         }
         escaped = c == '\\' && !escaped;
@@ -152,29 +139,14 @@ fn after_closing(text: &str, hashes: usize) -> &str
 {
     let mut rest = text;
     loop {
-        let stop = from_quote(rest);
-        let Some((c, after)) = split_first_char(stop) else {
-            return stop;
-        };
-        if c == '"' && !is_inner_quote(stop.as_bytes(), hashes) {
-            return &after[hashes..];
+        let end = body_end(rest.as_bytes(), 0, hashes, StringKind::String.switches());
+        let stop = &rest[end..];
+        match split_first_char(stop) {
+            Some((c, _)) if c == '"' => return &rest[end + 1 + hashes..],
+            Some((_, after)) => rest = after,
+            None => return stop,
         }
-        rest = after;
     }
-}
-
-/// Returns the part of `text` from its first `"` or CR on.
-fn from_quote(text: &str) -> &str
-    ensures closing { (n : ℕ) →
-        after_closing n (chars result.now) ≡ after_closing n (chars text.now) }
-    ensures shorter { length result.now ≤ length text.now }
-{
-    let what = Special {
-        backslash: false,
-        nul: false,
-        non_ascii: false,
-    };
-    &text[next_special(text.as_bytes(), 0, what)..]
 }
 
 /// Returns the part of `text` after its first character.

@@ -1,8 +1,9 @@
 //! Tests whether a literal begins at the front of a text, and the names there.
-ghost use Rattle.std.specs.Prelude.{◌≡◌};
-ghost use Rattle.litrs_prefix.specs.Words.{Bool, length, IsTrue, IsFalse, IfSome, IfNone, chars, begins_with, first_passes, bool_text, is_bool, is_quote, first_name, begins_lifetime, is_single_quote, opens_raw, opens_c_string, opens_bytes, opens, nat_le, is_xid_continue, is_empty, starts_identifier, IsEndOf, after_run, after_name, after_hashes};
+ghost use Rattle.std.specs.Prelude.{◌≡◌, ◌==◌};
+ghost use Rattle.litrs_prefix.specs.Words.{Bool, length, IsTrue, IsFalse, IfSome, IfNone, chars, begins_with, first_passes, bool_text, is_bool, first_name, begins_lifetime, opens_raw, opens_c_string, opens_bytes, opens, is_xid_continue, is_empty, starts_identifier, IsEndOf, after_run, after_name, after_hashes};
 
 use litrs_base::split_first_char;
+use litrs_lex::hashes::hash_len;
 use litrs_lex::{Run, run_end};
 use unicode_ident::{is_xid_continue, is_xid_start};
 
@@ -31,38 +32,28 @@ fn begins_lifetime(text: &str) -> bool
     ensures { result ≡ begins_lifetime (chars text.now) }
 {
     matches!(split_first_char(text), Some((c, _)) if begins_name(c))
-        && !begins_with_single_quote(after_name(text))
+        && !begins_with(after_name(text), '\'')
 }
 
-/// Returns `true` if `text` starts with `'`.
-pub fn begins_with_single_quote(text: &str) -> bool
-    ensures { result ≡ first_passes is_single_quote (chars text.now) }
+/// Returns `true` if `text` starts with `c`.
+pub fn begins_with(text: &str, c: char) -> bool
+    ensures { result ≡ first_passes (λ first. first == c) (chars text.now) }
 {
-    matches!(split_first_char(text), Some((c, _)) if c == '\'')
-}
-
-/// Returns `true` if `text` starts with `"`.
-pub fn begins_with_quote(text: &str) -> bool
-    ensures { result ≡ first_passes is_quote (chars text.now) }
-{
-    matches!(split_first_char(text), Some((c, _)) if c == '"')
+    matches!(split_first_char(text), Some((first, _)) if first == c)
 }
 
 /// Returns `true` if `text` starts with hashes and `"`, as after the `r` of a raw string.
 pub fn opens_raw(text: &str) -> bool
     ensures { result ≡ opens_raw (chars text.now) }
 {
-    begins_with_quote(after_hashes(text))
+    begins_with(after_hashes(text), '"')
 }
 
 /// Returns `true` if `b` and `text` begin a byte or a byte string.
 pub fn opens_bytes(text: &str) -> bool
     ensures { result ≡ opens_bytes (chars text.now) }
 {
-    match split_first_char(text) {
-        Some((c, rest)) => c == '\'' || c == '"' || (c == 'r' && opens_raw(rest)),
-        None => false,
-    }
+    begins_with(text, '\'') || opens_c_string(text)
 }
 
 /// Returns `true` if `c` and `text` begin a C string.
@@ -135,27 +126,7 @@ pub fn after_run(text: &str) -> &str
     ensures rest { chars result.now ≡ after_run (chars text.now) }
     ensures end { IsEndOf text.now result.now }
 {
-    let rest = &text[run_end(text.as_bytes(), Run::Identifier)..];
-    if starts_beyond_ascii(rest) {
-        after_any_run(rest)
-    } else {
-        rest
-    }
-}
-
-/// Returns `true` if `text` starts with a character that is not ASCII.
-pub fn starts_beyond_ascii(text: &str) -> bool
-    ensures { result ≡ first_passes (nat_le 128) text.now }
-{
-    matches!(text.as_bytes(), [first, ..] if *first >= 128)
-}
-
-/// Like [`after_run`], but reads character by character.
-fn after_any_run(text: &str) -> &str
-    ensures rest { chars result.now ≡ after_run (chars text.now) }
-    ensures end { IsEndOf text.now result.now }
-{
-    let mut rest = text;
+    let mut rest = &text[run_end(text.as_bytes(), Run::Identifier)..];
     loop {
         match split_first_char(rest) {
             Some((c, after)) if is_xid_continue(c) => rest = after,
@@ -168,11 +139,5 @@ fn after_any_run(text: &str) -> &str
 pub fn after_hashes(text: &str) -> &str
     ensures { chars result.now ≡ after_hashes (chars text.now) }
 {
-    let mut rest = text;
-    loop {
-        match split_first_char(rest) {
-            Some((c, after)) if c == '#' => rest = after,
-            _ => return rest,
-        }
-    }
+    &text[hash_len(text.as_bytes())..]
 }

@@ -1,137 +1,102 @@
 //! Literals that are read once: those without a suffix, before an ASCII character that no name has.
-//! Most literals of a source are such. Strings that are not closed are read once too.
+//! Most literals of a source are such.
 ghost use Rattle.std.specs.Prelude.{◌≡◌, ◌++◌};
-ghost use Rattle.litrs_prefix.specs.Words.{⊤, length, IsTrue, IsFalse, IfOk, IfErr, IfSome, IfNone, is_ascii_digit, chars, is_xid_continue, begins_with, first_passes, char_front, quoted_front, raw_front, switches_of, is_char_item, plain_char, is_period, literal_raw, derivation, IsItemsEnd, after_digits, IsEndOf, IsItemBefore, HasLiteralBefore, IsOnlyRest, IsLiteralLen, IsMalformedLen, after_opened, opens, HasPrefix};
+ghost use Rattle.litrs_prefix.specs.Words.{length, IsTrue, IsFalse, IfSome, is_ascii_digit, chars, is_xid_continue, begins_with, first_passes, char_front, quoted_front, raw_front, is_char_item, plain_char, literal_raw, derivation, IsItemBefore, IsPlainEnd, HasPrefix};
 
 use crate::Prefix;
-use crate::extent::judged_extent;
-use crate::follow::{begins_with_period, integer_follows, keeps_period};
-use crate::malformed::after_digits;
-use crate::opening::{begins_with_quote, is_empty, starts_beyond_ascii};
+use crate::follow::{ends_bool, gives_period};
+use crate::malformed::{after_digits, after_fraction};
+use crate::opening::{begins_with, bool_len};
 use litrs::{Literal, StringLit};
 use litrs_base::{CharKind, begins_with_digit, split_first_char};
-use litrs_lex::integer::begins_with_e;
 use litrs_lex::quoted::{items_end, plain_body_end};
 use litrs_lex::raw::{body_end, open_raw};
-use litrs_lex::{InByteString, InCString, InString, Run, StringKind, run_end, unescape_with};
+use litrs_lex::{InString, StringKind, unescape_with};
 
-/// Like [`opened_extent`](crate::opened_extent), for a text that starts with a digit. A name that
-/// follows the digits, as in `0xFF` and `1u32`, is read with them.
-#[inline(never)]
-pub fn number_extent(text: &str) -> Result<usize, usize>
-    requires opens { IsTrue (opens (chars text.now)) }
-    requires digit { IsTrue (first_passes is_ascii_digit (chars text.now)) }
-    ensures literal { IfOk result (IsLiteralLen text.now) }
-    ensures malformed { IfErr result (IsMalformedLen text.now) }
+/// Returns the part of `text` after the literal at its front, which has no suffix. The literal ends
+/// there if [`ends_name`] returns `true` for that part. Returns `None` if the literal is malformed,
+/// and for a C string.
+pub fn after_plain(text: &str) -> Option<&str>
+    ensures { IfSome result (λ rest. IsPlainEnd text.now rest.now) }
+{
+    if begins_with_digit(text) {
+        return Some(after_decimal(text));
+    }
+    match text.as_bytes() {
+        [b'"', ..] => after_quoted(text, StringKind::String),
+        [b'\'', ..] => after_char(text, 1, CharKind::Char),
+        [b'r', ..] => after_raw(text, StringKind::String),
+        [b'b', b'\'', ..] => after_char(text, 2, CharKind::Byte),
+        [b'b', b'"', ..] => after_quoted(text, StringKind::ByteString),
+        [b'b', b'r', ..] => after_raw(text, StringKind::ByteString),
+        _ => after_bool(text),
+    }
+}
+
+/// Like [`after_plain`], for a number. Returns the part after its digits and its fraction.
+fn after_decimal(text: &str) -> &str
+    requires { IsTrue (first_passes is_ascii_digit (chars text.now)) }
+    ensures { IsPlainEnd text.now result.now }
 {
     let rest = after_digits(text);
-    if begins_with_period(rest) {
-        match after_period(text, rest) {
-            Some(after) => Ok(text.len() - after.len()),
-            None => judged_extent(text),
-        }
-    } else if ends_name(rest) {
-        Ok(text.len() - rest.len())
-    } else if begins_with_e(rest.as_bytes()) {
-        judged_extent(text)
+    if gives_period(rest) {
+        after_fraction(rest)
     } else {
-        let len = run_end(text.as_bytes(), Run::Identifier);
-        let (front, rest) = text.split_at(len);
-        match integer_follows(front, rest) {
-            Some(true) => Ok(len),
-            Some(false) => judged_extent(text),
-            None if starts_beyond_ascii(rest) => judged_extent(text),
-            None => Err(len),
-        }
+        rest
     }
 }
 
-/// Returns the part of `text` after the number at its front, which has no suffix and no exponent.
-/// `rest` is the part after its digits, and starts with a period. Returns `None` if a name follows
-/// the fraction.
-fn after_period<'a>(text: &'a str, rest: &'a str) -> Option<&'a str>
-    requires digit { IsTrue (first_passes is_ascii_digit (chars text.now)) }
-    requires rest { chars rest.now ≡ after_digits (chars text.now) }
-    requires end { IsEndOf text.now rest.now }
-    requires period { IsTrue (first_passes is_period (chars rest.now)) }
-    ensures literal { IfSome result (λ rest. HasLiteralBefore text.now rest.now) }
-    ensures none { IfNone result (IsOnlyRest (chars text.now) (after_opened (chars text.now))) }
-{
-    let (_, after) = split_first_char(rest)?;
-    if begins_with_digit(after) {
-        let end = after_digits(after);
-        if ends_name(end) { Some(end) } else { None }
-    } else if keeps_period(after) {
-        Some(rest)
-    } else {
-        Some(after)
-    }
-}
-
-/// Like [`opened_extent`](crate::opened_extent), for a text that starts with the front of a char or
-/// a byte, which ends at `start`.
-pub fn char_extent(text: &str, start: usize, kind: CharKind) -> Result<usize, usize>
-    requires opens { IsTrue (opens (chars text.now)) }
-    requires other { IsFalse (first_passes is_ascii_digit (chars text.now)) }
+/// Like [`after_plain`], for a text that starts with the front of a char or a byte, which ends at
+/// `start`.
+fn after_char(text: &str, start: usize, kind: CharKind) -> Option<&str>
     requires begins { IsTrue (begins_with (char_front kind) text.now) }
     requires start { start ≡ length (char_front kind) }
-    ensures literal { IfOk result (IsLiteralLen text.now) }
-    ensures malformed { IfErr result (IsMalformedLen text.now) }
+    ensures { IfSome result (λ rest. IsPlainEnd text.now rest.now) }
 {
-    if let Some(after) = after_item(&text[start..], kind) {
-        match split_first_char(after) {
-            Some((quote, rest)) if quote == '\'' && ends_name(rest) => {
-                return Ok(text.len() - rest.len());
-            }
-            _ => {}
-        }
+    let closing = after_item(&text[start..], kind)?;
+    match split_first_char(closing) {
+        Some((quote, rest)) if quote == '\'' => Some(rest),
+        _ => None,
     }
-    judged_extent(text)
 }
 
-/// Like [`opened_extent`](crate::opened_extent), for a text that starts with the front of a quoted
-/// string. A string whose items end with the text is not closed.
+/// Like [`after_plain`], for a text that starts with the front of a quoted string.
 #[inline(never)]
-pub fn quoted_extent(text: &str, kind: StringKind) -> Result<usize, usize>
-    requires opens { IsTrue (opens (chars text.now)) }
-    requires other { IsFalse (first_passes is_ascii_digit (chars text.now)) }
-    requires begins { IsTrue (begins_with (quoted_front kind) text.now) }
-    ensures literal { IfOk result (IsLiteralLen text.now) }
-    ensures malformed { IfErr result (IsMalformedLen text.now) }
+fn after_quoted(text: &str, kind: StringKind) -> Option<&str>
+    requires { IsTrue (begins_with (quoted_front kind) text.now) }
+    ensures { IfSome result (λ rest. IsPlainEnd text.now rest.now) }
 {
     let body = &text[kind.front_len()..];
-    match split_first_char(&body[items_len(body, kind)..]) {
-        Some((quote, rest)) if quote == '"' && ends_name(rest) => Ok(text.len() - rest.len()),
-        Some(_) => judged_extent(text),
-        None => Err(text.len()),
+    match split_first_char(&body[items_end(body, 0, kind.switches())..]) {
+        Some((quote, rest)) if quote == '"' => Some(rest),
+        _ => None,
     }
 }
 
-/// Like [`quoted_extent`], for a raw string. One that is not closed extends to the end of the text.
+/// Like [`after_plain`], for a text that starts with the front of a raw string.
 #[inline(never)]
-pub fn raw_extent(text: &str, kind: StringKind) -> Result<usize, usize>
-    requires opens { IsTrue (opens (chars text.now)) }
-    requires other { IsFalse (first_passes is_ascii_digit (chars text.now)) }
-    requires begins { IsTrue (begins_with (raw_front kind) text.now) }
-    ensures literal { IfOk result (IsLiteralLen text.now) }
-    ensures malformed { IfErr result (IsMalformedLen text.now) }
+fn after_raw(text: &str, kind: StringKind) -> Option<&str>
+    requires { IsTrue (begins_with (raw_front kind) text.now) }
+    ensures { IfSome result (λ rest. IsPlainEnd text.now rest.now) }
 {
     let body = &text[kind.front_len()..];
     let Ok((hashes, start)) = open_raw(body, 0) else {
-        return judged_extent(text);
+        return None;
     };
     let end = body_end(body.as_bytes(), start, hashes, kind.switches());
-    let closing = &body[end..];
-    if is_empty(closing) {
-        return Err(text.len());
+    if begins_with(&body[end..], '"') {
+        Some(&body[end + 1 + hashes..])
+    } else {
+        None
     }
-    if begins_with_quote(closing) {
-        let rest = &body[end + 1 + hashes..];
-        if ends_name(rest) {
-            return Ok(text.len() - rest.len());
-        }
-    }
-    judged_extent(text)
+}
+
+/// Like [`after_plain`], for a bool.
+fn after_bool(text: &str) -> Option<&str>
+    ensures { IfSome result (λ rest. IsPlainEnd text.now rest.now) }
+{
+    let rest = &text[bool_len(text)?..];
+    if ends_bool(rest) { Some(rest) } else { None }
 }
 
 /// Parses the string at the front of `text`, if its body has neither a backslash nor a CR, and it
@@ -144,7 +109,7 @@ pub fn plain_string(text: &str) -> Option<Prefix<'_>>
     ensures found { IfSome result (λ prefix.
         HasPrefix (chars text.now) (derivation prefix.literal) (chars prefix.rest.now)) }
 {
-    if !begins_with_quote(text) {
+    if !begins_with(text, '"') {
         return None;
     }
     let quote = plain_body_end(text, 1, InString)?;
@@ -158,7 +123,7 @@ pub fn plain_string(text: &str) -> Option<Prefix<'_>>
 
 /// Returns `true` if `text` is empty or starts with an ASCII character that no name has.
 #[tactic(auto, using(crate::proofs::PlainLiterals::name_end))]
-fn ends_name(text: &str) -> bool
+pub fn ends_name(text: &str) -> bool
     ensures { IsTrue result → IsFalse (first_passes is_xid_continue (chars text.now)) }
 {
     match split_first_char(text) {
@@ -188,15 +153,4 @@ fn is_plain_char(c: char, kind: CharKind) -> bool
 {
     let fits = matches!(kind, CharKind::Char) || c.is_ascii();
     c != '\'' && c != '\\' && c != '\n' && c != '\t' && c != '\r' && fits
-}
-
-/// Returns where the items of `body` end.
-fn items_len(body: &str, kind: StringKind) -> usize
-    ensures { IsItemsEnd (switches_of kind) body.now 0 (λ _. ⊤) result }
-{
-    match kind {
-        StringKind::String => items_end(body, 0, InString),
-        StringKind::ByteString => items_end(body, 0, InByteString),
-        StringKind::CString => items_end(body, 0, InCString),
-    }
 }

@@ -1,8 +1,7 @@
 -- The cut decides.
 use Rattle.litrs_prefix.proofs.Words.{◌≡◌, List, ℕ, sym, ap, subst, ◌∙◌, chars, switches_of, IsQuoted, IsQuotedLiteral, ends_suffix}
-use Rattle.litrs_prefix.specs.Words.{IsOnlyDerivation, HasNoDerivation}
+use Rattle.litrs_prefix.specs.Words.{HasNoDerivation}
 use Rattle.litrs_lex.proofs.StringFronts.{quoted_boundary, quoted_before}
-use Rattle.litrs_prefix.proofs.Judged.{by_only}
 use Rattle.litrs_prefix.proofs.follow.quoted_follows.Goals as goal
 
 pub cut_quoted-requires : goal.cut_quoted-requires
@@ -16,11 +15,10 @@ returns-in-Ok c =
     let text = c.args.front.now in
     let rest = chars c.args.rest.now in
     let is = rw (c.front_len-start.ensures.quoted, c.switches-allowed.ensures) at c.in-Ok.ensures.ok in
-    let only : IsOnlyDerivation (IsQuotedLiteral kind (chars text)) is.parts =
-    subst (λ (f : List ℕ). IsOnlyDerivation (IsQuoted f (switches_of kind) (chars text)) is.parts) (quoted_before kind text c.utf8.front c.requires) is.only in
+    let whole : IsQuotedLiteral kind (chars text) is.parts =
+    subst (λ (f : List ℕ). IsQuoted f (switches_of kind) (chars text) is.parts) (quoted_before kind text c.utf8.front c.requires) is.only.0 in
     let suffix : is.parts.suffix ≡ chars c.range_from.result.now = sym (ap chars c.range_from.ensures.value ∙ is.suffix) in
-    by_only (IsQuotedLiteral kind (chars text)) (λ d. ends_suffix d.suffix rest) is.parts c.ends_suffix.result only
-    (ap (λ (l : List ℕ). ends_suffix l rest) suffix ∙ sym c.ends_suffix.ensures)
+    (is.parts, whole, ap (λ (l : List ℕ). ends_suffix l rest) suffix ∙ sym c.ends_suffix.ensures)
 
 pub returns-in-Err : goal.returns-in-Err
 returns-in-Err c = λ d h.

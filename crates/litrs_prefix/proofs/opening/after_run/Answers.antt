@@ -1,24 +1,25 @@
--- The ASCII characters at the front are passed by their bytes.
-use Rattle.litrs_prefix.proofs.Words.{List, ℕ, sym, ap, ◌∙◌, prefix_len, chars, is_word, after_run, after_bytes, end_of_end}
-use Rattle.litrs_prefix.proofs.Runs.{name_cut, name_ends}
+-- The ASCII characters at the front are passed by their bytes, and each other one is of the run.
+use Rattle.litrs_prefix.proofs.Words.{◌≡◌, true, List, ◌∷◌, ℕ, sym, ap, ◌∙◌, prefix_len, chars, is_word, is_xid_continue, after_run, after_bytes, after_first, if_true}
+use Rattle.litrs_prefix.proofs.Runs.{name_cut}
 use Rattle.litrs_prefix.proofs.opening.after_run.Goals as goal
 
 pub range_from-rest-requires : goal.range_from-rest-requires
 range_from-rest-requires c = λ _. (name_cut c.args.text.now c.run_end.result c.utf8.text (c.run_end.ensures.run ∙ ap (prefix_len is_word) c.as_bytes.ensures.value)).0
 
-pub returns-then-starts_beyond_ascii-clause-rest : goal.returns-then-starts_beyond_ascii-clause-rest
-returns-then-starts_beyond_ascii-clause-rest c =
-    c.after_any_run.ensures.rest
-    ∙ (ap (λ (l : List ℕ). after_run (chars l)) c.range_from-rest.ensures.value ∙ (name_cut c.args.text.now c.run_end.result c.utf8.text (c.run_end.ensures.run ∙ ap (prefix_len is_word) c.as_bytes.ensures.value)).1)
+pub loop-c-init : goal.loop-c-init
+loop-c-init c =
+    let back = c.range_from-rest.ensures.value in (
+      c.range_from-rest.utf8,
+      ap (λ (l : List ℕ). after_run (chars l)) back ∙ (name_cut c.args.text.now c.run_end.result c.utf8.text (c.run_end.ensures.run ∙ ap (prefix_len is_word) c.as_bytes.ensures.value)).1,
+      after_bytes c.args.text.now _ c.run_end.result back,
+    )
 
-pub returns-then-starts_beyond_ascii-clause-end : goal.returns-then-starts_beyond_ascii-clause-end
-returns-then-starts_beyond_ascii-clause-end c =
-    end_of_end c.args.text.now c.range_from-rest.result.now c.after_any_run.result.now
-    (after_bytes c.args.text.now c.range_from-rest.result.now c.run_end.result c.range_from-rest.ensures.value) c.after_any_run.ensures.end
-
-pub returns-else-starts_beyond_ascii-clause-rest : goal.returns-else-starts_beyond_ascii-clause-rest
-returns-else-starts_beyond_ascii-clause-rest c =
-    name_ends c.args.text.now c.range_from-rest.result.now c.run_end.result c.utf8.text (c.run_end.ensures.run ∙ ap (prefix_len is_word) c.as_bytes.ensures.value) c.range_from-rest.ensures.value (sym c.starts_beyond_ascii.ensures ∙ c.if-starts_beyond_ascii.false)
-
-pub returns-else-starts_beyond_ascii-clause-end : goal.returns-else-starts_beyond_ascii-clause-end
-returns-else-starts_beyond_ascii-clause-end c = after_bytes c.args.text.now c.range_from-rest.result.now c.run_end.result c.range_from-rest.ensures.value
+pub loop-c-preserved : goal.loop-c-preserved
+loop-c-preserved c =
+    let passes : is_xid_continue c.in-Some.c ≡ true = sym c.is_xid_continue.ensures.value ∙ c.if-is_xid_continue.true in
+    let after = c.in-Some.after.now in
+    let inv = c.loop-c.invariant in (
+      c.in-Some.ensures.rest,
+      sym (ap after_run c.in-Some.ensures.parts ∙ if_true (is_xid_continue c.in-Some.c) (after_run (chars after)) (c.in-Some.c ∷ chars after) passes) ∙ inv.1,
+      after_first c.args.text.now c.loop-c.rest.now after c.in-Some.c inv.2 c.in-Some.ensures.bytes,
+    )

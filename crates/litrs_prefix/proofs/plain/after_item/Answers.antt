@@ -1,13 +1,7 @@
 -- An escape, or a plain character.
-use Rattle.litrs_prefix.proofs.Words.{◌≡◌, ℕ, List, ◌++◌, true, or_right, sym, ap, subst, ◌∙◌, ◌==◌, chars, first_passes, Switches, plain_char, escaped_char, all, after_first, after_bytes}
+use Rattle.litrs_prefix.proofs.Words.{◌≡◌, ℕ, List, ◌++◌, true, sym, ap, subst, ◌∙◌, chars, Switches, plain_char, escaped_char}
 use Rattle.litrs_prefix.specs.Words.{escape_text, is_escape}
 use Rattle.litrs_prefix.proofs.plain.after_item.Goals as goal
-
-pub unescape_with-requires : goal.unescape_with-requires
-unescape_with-requires c = or_right _ _ (ap (first_passes (λ (k : ℕ). k == 92)) c.in-Some.ensures.parts ∙ ap (λ (k : ℕ). k == 92) c.if-c-eq92.true)
-
-pub range_from-requires : goal.range_from-requires
-range_from-requires c = λ _. c.in-Ok.ensures.ok.boundary
 
 pub returns-in-Ok : goal.returns-in-Ok
 returns-in-Ok c =
@@ -17,8 +11,6 @@ returns-in-Ok c =
       item = escaped_char is.escape;
       grammar = subst (λ (w : Switches). is_escape w is.escape ≡ true) c.switches.ensures is.grammar;
       spells = ap (λ (l : List ℕ). escape_text is.escape ++ l) (ap chars back ∙ is.after) ∙ is.spells;
-      end = after_bytes c.args.body.now c.range_from.result.now c.in-Ok.len back;
-      utf8 = c.range_from.utf8;
     }
 
 pub returns-in-Some-2 : goal.returns-in-Some-2
@@ -28,6 +20,4 @@ returns-in-Some-2 c =
       item = plain_char c.in-Some.c;
       grammar = sym c.is_plain_char.ensures ∙ c.if-is_plain_char.true;
       spells = sym c.in-Some.ensures.parts;
-      end = after_first body body c.in-Some.field-0-1.now c.in-Some.c (all body) c.in-Some.ensures.bytes;
-      utf8 = c.in-Some.ensures.rest;
     }
