@@ -172,6 +172,9 @@ fn finished<C: EscapeContainer, A: Allows>(
 
 /// Like [`read_value`], from the state `from` on, with a larger room. The value up to there is
 /// `value`.
+///
+/// Not inlined, so that shorter values do not need a stack of its size.
+#[inline(never)]
 fn read_longer<C: EscapeContainer, A: Allows>(
     alloc: Global,
     input: &str,
@@ -196,9 +199,7 @@ fn read_longer<C: EscapeContainer, A: Allows>(
     }
 }
 
-/// Like [`read_longer`], with the largest room.
-///
-/// Not inlined, so that shorter values do not need a stack of its size.
+/// Like [`read_longer`], with the largest room, and not inlined either.
 #[inline(never)]
 fn read_longest<C: EscapeContainer, A: Allows>(
     alloc: Global,
