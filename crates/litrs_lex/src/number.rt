@@ -46,7 +46,9 @@ pub fn cut_number(input: &str) -> Result<NumberCut, ParseError>
             base: IntegerBase::Decimal,
         }))
     } else {
-        cut_any_number(input)
+        // Moved, so that the base of the shortest integers is not stored there as a byte, and
+        // loaded as a word.
+        Ok(cut_any_number(input)?)
     }
 }
 

@@ -90,6 +90,17 @@ pub fn items_end<A: Allows>(input: &str, offset: usize, allowed: A) -> usize
     if begins_with_byte(input[from.place..].as_bytes(), b'"') {
         return from.place;
     }
+    read_end(input, offset, from, allowed)
+}
+
+/// Like [`items_end`], from the state `from` on.
+///
+/// Not inlined, so that a body without a backslash does not need its frame.
+#[inline(never)]
+fn read_end<A: Allows>(input: &str, offset: usize, from: Reading, allowed: A) -> usize
+    requires { IsReading (A.allowed allowed) input.now offset (λ v. v ≡ []) from }
+    ensures { IsItemsEnd (A.allowed allowed) input.now offset (λ _. ⊤) result }
+{
     match read_items(input, offset, from, allowed, &mut Counted { len: 0 }) {
         Reached::Quote(place) => place,
         Reached::Full(_) => unreachable!(),

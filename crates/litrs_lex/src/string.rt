@@ -140,14 +140,17 @@ fn read_value<C: EscapeContainer, A: Allows>(
         mask: Mask::empty_at(place),
     };
     let mut room = Room::<SHORT>::new();
+    // A longer value is moved here, and `finished` is inlined: an error that shares the memory of
+    // their results is stored as bytes, and loaded as words.
     match read_items(input, offset, from, allowed, &mut room) {
         Reached::Quote(place) => finished(alloc, input, offset, place, allowed, room.as_bytes()),
-        Reached::Full(state) => read_longer(alloc, input, offset, state, allowed, room.as_bytes()),
+        Reached::Full(at) => Ok(read_longer(alloc, input, offset, at, allowed, room.as_bytes())?),
         Reached::Refused(_, e) => Err(e),
     }
 }
 
 /// Like [`read_value`], for a body that is read, and whose value is `value`.
+#[inline(always)]
 fn finished<C: EscapeContainer, A: Allows>(
     alloc: Global,
     input: &str,
@@ -172,6 +175,9 @@ fn finished<C: EscapeContainer, A: Allows>(
 
 /// Like [`read_value`], from the state `from` on, with a larger room. The value up to there is
 /// `value`.
+///
+/// Not inlined, so that shorter values do not need a stack of its size.
+#[inline(never)]
 fn read_longer<C: EscapeContainer, A: Allows>(
     alloc: Global,
     input: &str,
@@ -191,14 +197,12 @@ fn read_longer<C: EscapeContainer, A: Allows>(
     }
     match read_items(input, offset, from, allowed, &mut room) {
         Reached::Quote(place) => finished(alloc, input, offset, place, allowed, room.as_bytes()),
-        Reached::Full(state) => read_longest(alloc, input, offset, state, allowed, room.as_bytes()),
+        Reached::Full(at) => Ok(read_longest(alloc, input, offset, at, allowed, room.as_bytes())?),
         Reached::Refused(_, e) => Err(e),
     }
 }
 
-/// Like [`read_longer`], with the largest room.
-///
-/// Not inlined, so that shorter values do not need a stack of its size.
+/// Like [`read_longer`], with the largest room, and not inlined either.
 #[inline(never)]
 fn read_longest<C: EscapeContainer, A: Allows>(
     alloc: Global,
@@ -219,7 +223,7 @@ fn read_longest<C: EscapeContainer, A: Allows>(
     }
     match read_items(input, offset, from, allowed, &mut room) {
         Reached::Quote(place) => finished(alloc, input, offset, place, allowed, room.as_bytes()),
-        Reached::Full(state) => read_twice(alloc, input, offset, state, allowed, room.as_bytes()),
+        Reached::Full(at) => Ok(read_twice(alloc, input, offset, at, allowed, room.as_bytes())?),
         Reached::Refused(_, e) => Err(e),
     }
 }
