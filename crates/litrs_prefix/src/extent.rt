@@ -47,8 +47,8 @@ pub fn opened_len(text: &str) -> Option<usize>
 ///
 /// # Errors
 ///
-/// The length that [`parse_prefix`](crate::parse_prefix) returns with its error if no literal at
-/// the front is valid.
+/// Returns the length that [`parse_prefix`](crate::parse_prefix) returns with its error, if no
+/// literal at the front is valid.
 pub fn opened_extent(text: &str) -> Result<usize, usize>
     requires { IsTrue (opens (chars text.now)) }
     ensures literal { IfOk result (IsLiteralLen text.now) }
