@@ -1,7 +1,7 @@
 //! Literals that are read once: those without a suffix, before an ASCII character that no name has.
 //! Most literals of a source are such.
 ghost use Rattle.std.specs.Prelude.{◌≡◌, ◌++◌};
-ghost use Rattle.litrs_prefix.specs.Words.{length, IsTrue, IsFalse, IfSome, is_ascii_digit, chars, is_xid_continue, begins_with, first_passes, char_front, quoted_front, raw_front, is_char_item, plain_char, literal_raw, derivation, IsItemBefore, IsPlainEnd, HasPrefix};
+ghost use Rattle.litrs_prefix.specs.Words.{⊤, length, IsTrue, IsFalse, IfSome, is_ascii_digit, chars, is_xid_continue, begins_with, first_passes, char_front, quoted_front, raw_front, switches_of, is_char_item, plain_char, literal_raw, derivation, IsItemsEnd, IsItemBefore, IsPlainEnd, HasPrefix};
 
 use crate::Prefix;
 use crate::follow::{ends_bool, gives_period};
@@ -11,7 +11,7 @@ use litrs::{Literal, StringLit};
 use litrs_base::{CharKind, begins_with_digit, split_first_char};
 use litrs_lex::quoted::{items_end, plain_body_end};
 use litrs_lex::raw::{body_end, open_raw};
-use litrs_lex::{InString, StringKind, unescape_with};
+use litrs_lex::{InByteString, InCString, InString, StringKind, unescape_with};
 
 /// Returns the part of `text` after the literal at its front, which has no suffix. The literal ends
 /// there if [`ends_name`] returns `true` for that part. Returns `None` if the literal is malformed,
@@ -67,7 +67,7 @@ fn after_quoted(text: &str, kind: StringKind) -> Option<&str>
     ensures { IfSome result (λ rest. IsPlainEnd text.now rest.now) }
 {
     let body = &text[kind.front_len()..];
-    match split_first_char(&body[items_end(body, 0, kind.switches())..]) {
+    match split_first_char(&body[items_len(body, kind)..]) {
         Some((quote, rest)) if quote == '"' => Some(rest),
         _ => None,
     }
@@ -153,4 +153,15 @@ fn is_plain_char(c: char, kind: CharKind) -> bool
 {
     let fits = matches!(kind, CharKind::Char) || c.is_ascii();
     c != '\'' && c != '\\' && c != '\n' && c != '\t' && c != '\r' && fits
+}
+
+/// Returns where the items of `body` end.
+fn items_len(body: &str, kind: StringKind) -> usize
+    ensures { IsItemsEnd (switches_of kind) body.now 0 (λ _. ⊤) result }
+{
+    match kind {
+        StringKind::String => items_end(body, 0, InString),
+        StringKind::ByteString => items_end(body, 0, InByteString),
+        StringKind::CString => items_end(body, 0, InCString),
+    }
 }
