@@ -1,12 +1,12 @@
 -- The words of the contracts and of their proofs, from one place. A contract imports operators from
 -- `std` itself, since the toolchain accepts them from nowhere else.
 pub use Rattle.std.specs.Char.{is_ascii, is_ascii_alphanumeric, is_ascii_digit, is_ascii_alphabetic}
-pub use Rattle.std.specs.Char.{is_ascii_hexdigit, is_whitespace}
+pub use Rattle.std.specs.Char.{is_whitespace}
 pub use Rattle.std.specs.Cmp.Lexicographic.{pointwise}
 pub use Rattle.std.specs.List.{prefix_len, list_all, after_first, list_any, take_while}
 pub use Rattle.std.specs.Prelude.{drop, take, IsTrue, IfOk, IfErr, IfSome, IfNone, not, Bool}
 pub use Rattle.std.specs.Prelude.{IsFalse, length, ℕ, nat_le, codes, ⊤, encode_utf8_all, nat_eq}
-pub use Rattle.std.specs.Prelude.{encode_utf8, ltb, option_map, slice_index, unwrap_or}
+pub use Rattle.std.specs.Prelude.{encode_utf8, ltb, unwrap_or}
 pub use Rattle.std.specs.Str.{chars, IsCharBoundary, drop_trailing_whitespace, IsUtf8}
 pub use Rattle.unicode_ident.specs.Ident.{is_xid_continue}
 pub use Rattle.litrs_base.specs.Base.{is_digit_or_underscore, prefix}
@@ -20,8 +20,7 @@ pub use Rattle.litrs_base.specs.Text.{is_text}
 pub use Rattle.litrs_base.specs.declared.err.ParseError.{ParseError}
 pub use Rattle.litrs_base.specs.declared.err.ParseErrorKind.TheVariants.{InvalidLiteral}
 pub use Rattle.litrs_base.specs.declared.integer.IntegerBase.{IntegerBase}
-pub use Rattle.litrs_base.specs.declared.integer.IntegerBase.TheVariants.{Binary, Decimal}
-pub use Rattle.litrs_base.specs.declared.integer.IntegerBase.TheVariants.{Hexadecimal, Octal}
+pub use Rattle.litrs_base.specs.declared.integer.IntegerBase.TheVariants.{Decimal}
 pub use Rattle.litrs_base.specs.declared.quotes.CharKind.{CharKind}
 pub use Rattle.litrs_base.specs.declared.quotes.CharKind.TheVariants.{Char as char_kind}
 pub use Rattle.litrs_base.specs.declared.quotes.CharKind.TheVariants.{Byte as byte_kind}
@@ -36,7 +35,7 @@ pub use Rattle.litrs_grammar.specs.CharByte.{char_item_text, CharItem, CharParts
 pub use Rattle.litrs_grammar.specs.Escape.{Escape, escape_text, hex_escape, is_escape}
 pub use Rattle.litrs_grammar.specs.Escape.{is_hex_or_underscore, simple_escape, unicode_escape}
 pub use Rattle.litrs_grammar.specs.Float.{is_period, IsFloatOf, is_decimal_char, FloatParts}
-pub use Rattle.litrs_grammar.specs.Float.{float_text, fraction_text, is_decimal_literal}
+pub use Rattle.litrs_grammar.specs.Float.{float_text, fraction_text}
 pub use Rattle.litrs_grammar.specs.Float.{is_float_form, is_sign, sign_len}
 unfoldable pub use Rattle.litrs_grammar.specs.Float.{is_exponent}
 pub use Rattle.litrs_grammar.specs.Integer.{IsIntegerOf, IntegerParts, is_e, IsInteger, base_of}
@@ -49,15 +48,15 @@ pub use Rattle.litrs_grammar.specs.Literal.{char_literal, float_literal, integer
 pub use Rattle.litrs_grammar.specs.Literal.{literal_kind, quoted_parts, raw_parts}
 pub use Rattle.litrs_grammar.specs.Literal.{string_literal_of, string_suffix}
 pub use Rattle.litrs_grammar.specs.LiteralRefusals.{begins_float, Dispatch, IsRefusal}
-pub use Rattle.litrs_grammar.specs.LiteralRefusals.{is_float_mark, parsed_as, refused_as}
+pub use Rattle.litrs_grammar.specs.LiteralRefusals.{parsed_as, refused_as}
 unfoldable pub use Rattle.litrs_grammar.specs.LiteralRefusals.{dispatch}
 pub use Rattle.litrs_grammar.specs.Quoted.{IsQuotedLiteral, IsQuoted, Item, QuotedParts, body_text}
-pub use Rattle.litrs_grammar.specs.Quoted.{continuation, escape_item, is_body, is_complete_before}
-pub use Rattle.litrs_grammar.specs.Quoted.{is_item, is_item_list, item_refusal, item_text}
+pub use Rattle.litrs_grammar.specs.Quoted.{continuation, escape_item, is_body}
+pub use Rattle.litrs_grammar.specs.Quoted.{is_item, is_item_list, item_text}
 pub use Rattle.litrs_grammar.specs.Quoted.{plain_item, quoted_text}
 pub use Rattle.litrs_grammar.specs.Raw.{is_quote, IsRawLiteral, raw_closing, hashes, is_hash}
 pub use Rattle.litrs_grammar.specs.Raw.{hash_len, RawParts, raw_refusal, has_unicode, allows_nul}
-pub use Rattle.litrs_grammar.specs.Raw.{IsRawOf, IsRawBody, length_before, occurs, raw_text}
+pub use Rattle.litrs_grammar.specs.Raw.{IsRawOf, length_before, occurs, raw_text}
 pub use Rattle.litrs_grammar.specs.Refused.{IsRefused, IsRefusedOrOutOfMemory}
 pub use Rattle.litrs_grammar.specs.Suffix.{starts_identifier}
 unfoldable pub use Rattle.litrs_grammar.specs.Suffix.{is_suffix}

@@ -1,6 +1,6 @@
 //! Tests of a piece of a text: it is a literal, and the rest may follow it.
 ghost use Rattle.std.specs.Prelude.{◌≡◌, ◌&&◌};
-ghost use Rattle.litrs_prefix.specs.Words.{chars, float_parts, integer_parts, derivation, ends_suffix, ends_bool, keeps_period, gives_period, ends_integer, is_bare, ends_float, may_follow, IsTrue, begins_with, quoted_front, raw_front, IsFloatOf, IsIntegerOf, IsQuotedLiteral, IsRawLiteral, IsFront, IsJudged, IsJudgedBy};
+ghost use Rattle.litrs_prefix.specs.Words.{chars, float_parts, integer_parts, derivation, ends_suffix, ends_bool, keeps_period, gives_period, ends_integer, is_bare, ends_float, may_follow, IsTrue, begins_with, quoted_front, raw_front, IsIntegerOf, IsQuotedLiteral, IsRawLiteral, IsFront, IsJudged, IsJudgedBy};
 
 use crate::opening::{begins_name, begins_with, is_empty};
 use litrs::{FloatLit, IntegerLit, Literal};
@@ -36,9 +36,9 @@ fn number_follows(front: &str, rest: &str) -> Option<bool>
     requires { IsFront Front.Number front.now }
     ensures { IsJudged result (chars front.now) (chars rest.now) }
 {
-    match float_follows(front, rest) {
-        Some(ends) => Some(ends),
-        None => integer_follows(front, rest),
+    match FloatLit::parse(front) {
+        Ok(lit) => Some(ends_suffix(lit.suffix(), rest) && ends_float(&lit, rest)),
+        Err(_) => integer_follows(front, rest),
     }
 }
 
@@ -49,17 +49,6 @@ pub fn integer_follows(front: &str, rest: &str) -> Option<bool>
 {
     match IntegerLit::parse(front) {
         Ok(lit) => Some(ends_suffix(lit.suffix(), rest) && ends_integer(&lit, rest)),
-        Err(_) => None,
-    }
-}
-
-/// Like [`follows`], for a float.
-fn float_follows(front: &str, rest: &str) -> Option<bool>
-    ensures { IsJudgedBy (IsFloatOf (chars front.now))
-        (λ d. ends_suffix d.suffix (chars rest.now) && ends_float d (chars rest.now)) result }
-{
-    match FloatLit::parse(front) {
-        Ok(lit) => Some(ends_suffix(lit.suffix(), rest) && ends_float(&lit, rest)),
         Err(_) => None,
     }
 }

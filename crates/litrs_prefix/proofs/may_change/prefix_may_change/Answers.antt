@@ -1,5 +1,5 @@
 -- The kind of text that begins at the front decides.
-use Rattle.litrs_prefix.proofs.Words.{length, false, sym, ap, ◌∙◌, arith, chars, eqb-true, true≢false, drop_all, chars-nil, is_empty}
+use Rattle.litrs_prefix.proofs.Words.{length, sym, ap, ◌∙◌, arith, chars, eqb-true, true≢false, drop_all, chars-nil, is_empty}
 use Rattle.litrs_prefix.proofs.MayChange.{none_stays, none_changes, literal_stays, literal_changes, malformed_stays, malformed_completes, malformed_reaches_end, malformed_line_feed, begins_later, front_later, opens_never}
 use Rattle.litrs_prefix.proofs.Pieces.{bytes_left}
 use Rattle.litrs_prefix.proofs.may_change.prefix_may_change.Goals as goal
