@@ -35,8 +35,9 @@ abbrev pub after_exponent : List ℕ → List ℕ
 after_exponent [] = []
 after_exponent (c ∷ t) = if is_e c then after_digits (after_sign t) else (c ∷ t)
 
--- The text after the first quote that is not escaped, or nothing if there is none. If `in_line`, the
--- text after the line if there is none in it. The first character may be escaped.
+-- The text after the first `quote` that is not escaped, or the empty text if there is none. If
+-- `in_line`, it is the rest from the end of the line on if the line has none. If `escaped`, a
+-- backslash precedes the text.
 abbrev pub past_closing : (quote : ℕ) (in_line escaped : Bool) → List ℕ → List ℕ
 past_closing quote in_line escaped [] = []
 past_closing quote in_line escaped (c ∷ t) =

@@ -29,8 +29,8 @@ pub fn prefix_may_change(text: &str) -> bool
     prefix_goes_on(text) || (is_empty(after_opened(text)) || is_quoted_line_feed(text))
 }
 
-/// Returns `true` if `text` is `'`, a lifetime, or `r`, `b`, `br`, `c` or `cr` with any hashes after
-/// an `r`: a quote after it begins a literal.
+/// Returns `true` if `text` is `'`, a lifetime, or `r`, `b`, `br`, `c` or `cr` with any hashes
+/// after an `r`: a quote after it begins a literal.
 pub fn is_open_front(text: &str) -> bool
     ensures { result ≡ is_open_front (chars text.now) }
 {

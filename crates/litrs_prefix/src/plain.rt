@@ -99,9 +99,9 @@ fn after_bool(text: &str) -> Option<&str>
     if ends_bool(rest) { Some(rest) } else { None }
 }
 
-/// Parses the string at the front of `text`, if its body has neither a backslash nor a CR, and it
-/// has no suffix before an ASCII character that no name has, or the end of the text. Otherwise
-/// returns `None`.
+/// Parses the string at the front of `text`, or returns `None` if it is not plain. The body of a
+/// plain string has neither a backslash nor a CR. It has no suffix, and ends the text or precedes
+/// an ASCII character that no name has.
 #[inline(always)]
 pub fn plain_string(text: &str) -> Option<Prefix<'_>>
     ensures spells { IfSome result (λ prefix.
