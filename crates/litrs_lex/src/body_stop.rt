@@ -8,9 +8,7 @@ ghost use Rattle.litrs_lex.specs.Reading.{IsItemsEnd};
 
 use crate::allowed::Allows;
 use crate::escape_end::refused_escape_goes_on;
-use crate::quoted::beginning;
-use crate::reading::{Reached, read_items};
-use crate::sink::Counted;
+use crate::quoted::items_end;
 use crate::{Switches, unescape_with};
 
 /// The item within which a text ends that ends within a body.
@@ -50,12 +48,8 @@ pub fn quoted_stop<A: Allows>(input: &str, offset: usize, allowed: A) -> (usize,
     ensures ends { IsItemsEnd (A.allowed allowed) input.now offset (λ _. ⊤) result.0 }
     ensures stops { StopsBy (A.allowed allowed) (chars (drop result.0 input.now)) result.1 }
 {
-    let from = beginning(input, offset, allowed);
-    match read_items(input, offset, from, allowed, &mut Counted { len: 0 }) {
-        Reached::Quote(place) => (place, BodyStop::Quote),
-        Reached::Full(_) => unreachable!(),
-        Reached::Refused(place, _) => (place, rest_stop(&input[place..], allowed.switches())),
-    }
+    let end = items_end(input, offset, allowed);
+    (end, rest_stop(&input[end..], allowed.switches()))
 }
 
 /// Returns what ends the items of a body that `rest` follows.

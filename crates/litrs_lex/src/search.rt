@@ -1,5 +1,5 @@
 //! The search for special bytes of a body.
-ghost use Rattle.std.specs.Prelude.{◌≡◌, ◌==◌, ◌+◌, ◌≤◌, ◌<◌, List, ℕ, length, drop, map, if◌then◌else◌};
+ghost use Rattle.std.specs.Prelude.{◌≡◌, ◌==◌, ◌+◌, ◌≤◌, ◌<◌, ◌⊎◌, List, ℕ, length, drop, map, if◌then◌else◌};
 ghost use Rattle.std.specs.Simd.Lanes.{mask_l, chunk};
 ghost use Rattle.std.specs.List.{prefix_len};
 ghost use Rattle.std.specs.Int.{w64, trailing_zeros};
@@ -112,28 +112,44 @@ pub fn next_special_masked(bytes: &[u8], from: usize, what: Special, mask: Mask)
     // three bytes there is no mask.
     match bytes.len() {
         0..=3 => (unread + ordinary_len(&bytes[unread..], what), mask),
-        4..=7 => mask_all::<4>(bytes, unread, what),
-        8..=15 => mask_all::<8>(bytes, unread, what),
-        16..=31 => mask_all::<16>(bytes, unread, what),
+        4..=7 => mask_all(bytes, unread, 4, what),
+        8..=31 => mask_all(bytes, unread, 8 + bytes.len() / 16 * 8, what),
         _ => mask_by_lanes(bytes, unread, what),
     }
 }
 
-/// Like [`next_special`], with a mask, for `N` to `2 * N` bytes, by a load of the first `N` and one
-/// of the last `N`. The bits of bytes that both loads have are shifted out of the second.
+/// Like [`next_special`], with a mask, for `width` to `2 * width` bytes, by the masks of the first
+/// `width` bytes and of the last.
 #[inline(always)]
-fn mask_all<const N: usize>(bytes: &[u8], start: usize, what: Special) -> (usize, Mask)
+fn mask_all(bytes: &[u8], start: usize, width: usize, what: Special) -> (usize, Mask)
     requires within { start ≤ length bytes.now }
-    requires size { (N ≤ length bytes.now) × (length bytes.now ≤ N + N) × (N ≤ 16) }
+    requires size { (width ≤ length bytes.now) × (length bytes.now ≤ width + width) }
+    requires width { (width ≡ 4) ⊎ ((width ≡ 8) ⊎ (width ≡ 16)) }
     ensures { IsFoundFrom start what bytes.now result.0 result.1 }
 {
     let end = bytes.len();
-    let first = special_mask::<N>(bytes, 0, what);
-    let last = special_mask::<N>(bytes, end - N, what);
-    let after = last >> (N + N - end);
-    let bits = (first + (after << N)) >> start;
+    let first = wide_mask(bytes, 0, width, what);
+    let last = wide_mask(bytes, end - width, width, what);
+    let bits = (first | last << (end - width)) >> start;
     let mask = Mask { start, end, bits };
     (lowest_bit_place(bits, start, end), mask)
+}
+
+/// Returns the mask of the `width` bytes from `at` on, for a width of 4, 8 or 16. For 8 and 16 the
+/// loads are the same, so that no branch tells them apart, which would be hard to predict.
+#[inline(always)]
+fn wide_mask(bytes: &[u8], at: usize, width: usize, what: Special) -> u64
+    requires within { at + width ≤ length bytes.now }
+    requires width { (width ≡ 4) ⊎ ((width ≡ 8) ⊎ (width ≡ 16)) }
+    ensures { result ≡ mask_l (map (is_special what) (chunk at width bytes.now)) }
+{
+    if width == 4 {
+        return mask_of(Simd::<u8, 4>::from_slice(&bytes[at..]), what);
+    }
+    let first = Simd::<u8, 8>::from_slice(&bytes[at..]);
+    let last = Simd::<u8, 8>::from_slice(&bytes[at + width - 8..]);
+    let lanes = first.shuffle::<16>(last, [0, 1, 2, 3, 4, 5, 6, 7, 8, 9, 10, 11, 12, 13, 14, 15]);
+    mask_of(lanes, what) % (1 << width)
 }
 
 /// Like [`next_special`], with a mask, for at least 32 bytes, by 32 bytes a step. The last load is
@@ -146,7 +162,7 @@ fn mask_by_lanes(bytes: &[u8], from: usize, what: Special) -> (usize, Mask)
     let end = bytes.len();
     let mut start = from;
     while end - start >= LOAD {
-        let bits = special_mask::<LOAD>(bytes, start, what);
+        let bits = mask_of(Simd::<u8, LOAD>::from_slice(&bytes[start..]), what);
         if bits != 0 {
             let end = start + LOAD;
             let mask = Mask { start, end, bits };
@@ -154,7 +170,8 @@ fn mask_by_lanes(bytes: &[u8], from: usize, what: Special) -> (usize, Mask)
         }
         start += LOAD;
     }
-    let bits = special_mask::<LOAD>(bytes, end - LOAD, what) >> (LOAD - (end - start));
+    let last = mask_of(Simd::<u8, LOAD>::from_slice(&bytes[end - LOAD..]), what);
+    let bits = last >> (LOAD - (end - start));
     let mask = Mask { start, end, bits };
     (lowest_bit_place(bits, start, end), mask)
 }
@@ -193,19 +210,17 @@ fn lowest_bit_place(bits: u64, from: usize, end: usize) -> usize
     }
 }
 
-/// Returns the mask of the `N` bytes from `at` on: bit `i` is set if the byte at `at + i` is
-/// special.
+/// Returns a mask: bit `i` is set if byte `i` of `lanes` is special.
 ///
 /// A byte that is not searched for is replaced by CR, and the limit by 255, which no byte exceeds.
 #[inline(always)]
-fn special_mask<const N: usize>(bytes: &[u8], at: usize, what: Special) -> u64
-    requires { (at + N ≤ length bytes.now) × (N ≤ 64) }
-    ensures { result ≡ mask_l (map (is_special what) (chunk at N bytes.now)) }
+fn mask_of<const N: usize>(lanes: Simd<u8, N>, what: Special) -> u64
+    requires { N ≤ 64 }
+    ensures { result ≡ mask_l (map (is_special what) lanes.entry) }
 {
     let second = if what.backslash { b'\\' } else { b'\r' };
     let third = if what.nul { 0 } else { b'\r' };
     let limit = if what.non_ascii { 127 } else { 255 };
-    let lanes = Simd::<u8, N>::from_slice(&bytes[at..]);
     (lanes.simd_eq(Simd::splat(b'"'))
         | lanes.simd_eq(Simd::splat(b'\r'))
         | lanes.simd_eq(Simd::splat(second))

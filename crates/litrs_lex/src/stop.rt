@@ -143,22 +143,9 @@ fn begins_with_stop(bytes: &[u8]) -> bool
     matches!(bytes.first(), Some(b'\\' | b'"'))
 }
 
-/// Returns `text` without its last character. An ASCII character, for example a closing quote, is
-/// cut off without a call.
+/// Returns `text` without its last character, for example without the closing quote.
 #[inline(always)]
 fn without_last(text: &str) -> &str
-    ensures { chars result.now ≡ without_last (chars text.now) }
-{
-    let bytes = text.as_bytes();
-    if bytes.len() > 0 && bytes[bytes.len() - 1] < 128 {
-        return &text[..bytes.len() - 1];
-    }
-    without_last_of_any(text)
-}
-
-/// Like [`without_last`], for a text that may end with a character that is not ASCII.
-#[inline(never)]
-fn without_last_of_any(text: &str) -> &str
     ensures { chars result.now ≡ without_last (chars text.now) }
 {
     let mut chars = text.chars();

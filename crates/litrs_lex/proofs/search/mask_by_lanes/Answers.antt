@@ -11,31 +11,31 @@ returns-then-bits-ne0 c =
     let bytes = c.args.bytes.now in
     let start = c.loop-start.start in
     let load : 32 ≡ start + 32 - start = omega arith in record {
-      place = omega (arith, run_stops (is_special c.args.what) bytes start 32 _ c.special_mask-bits.ensures (omega arith) (omega arith) (omega arith), c.loop-start.invariant.0);
+      place = omega (arith, run_stops (is_special c.args.what) bytes start 32 _ c.mask_of-bits.ensures (omega arith) (omega arith) (omega arith), c.loop-start.invariant.0);
       after = omega arith;
       mask = record {
         ordered = omega arith;
         within = omega arith;
         few = omega arith;
-        bits = c.special_mask-bits.ensures ∙ ap (λ n. mask_l (map (is_special c.args.what) (chunk start n bytes))) load;
+        bits = c.mask_of-bits.ensures ∙ ap (λ n. mask_l (map (is_special c.args.what) (chunk start n bytes))) load;
       };
     }
 
 pub loop-start-preserved : goal.loop-start-preserved
 loop-start-preserved c = (
-  omega (arith, run_through (is_special c.args.what) c.args.bytes.now c.loop-start.start 32 _ c.special_mask-bits.ensures (omega arith) (omega arith), c.loop-start.invariant.0),
+  omega (arith, run_through (is_special c.args.what) c.args.bytes.now c.loop-start.start 32 _ c.mask_of-bits.ensures (omega arith) (omega arith), c.loop-start.invariant.0),
   omega arith,
   omega arith,
 )
 
 pub lowest_bit_place-requires : goal.lowest_bit_place-requires
-lowest_bit_place-requires c = last_within (is_special c.args.what) c.args.bytes.now c.loop-start.start 32 _ c.special_mask.ensures (omega arith) (omega arith) (omega arith) (omega arith)
+lowest_bit_place-requires c = last_within (is_special c.args.what) c.args.bytes.now c.loop-start.start 32 _ c.mask_of-last.ensures (omega arith) (omega arith) (omega arith) (omega arith)
 
 pub returns : goal.returns
 returns c =
     let bytes = c.args.bytes.now in
     let start = c.loop-start.start in
-    let last = last_ends (is_special c.args.what) bytes start 32 _ c.special_mask.ensures (omega arith) (omega arith) (omega arith) (omega arith) in
+    let last = last_ends (is_special c.args.what) bytes start 32 _ c.mask_of-last.ensures (omega arith) (omega arith) (omega arith) (omega arith) in
     let end = c.lowest_bit_place.ensures ∙ last in record {
       place = omega (arith, end, c.loop-start.invariant.0);
       after = omega (arith, end);
@@ -43,7 +43,7 @@ returns c =
         ordered = omega arith;
         within = omega arith;
         few = omega arith;
-        bits = ap (λ m. m / 2 ^ (32 - (length bytes - start))) c.special_mask.ensures
+        bits = ap (λ m. m / 2 ^ (32 - (length bytes - start))) c.mask_of-last.ensures
             ∙ (last_marks (is_special c.args.what) bytes start 32 (omega arith) (omega arith) (omega arith)
             ∙ ap (λ l. mask_l (map (is_special c.args.what) l)) (sym (take_all (length bytes - start) (drop start bytes) (omega (arith, length-drop start bytes)))));
       };

@@ -65,20 +65,12 @@ returns-in-4-to-7-clause-place c =
       | else-from-mask w ↦ unmoved c.args.what c.args.bytes.now c.args.from _ _ w.unread-is c.mask_all.ensures.place
     ]
 
-pub returns-in-8-to-15-clause-place : goal.returns-in-8-to-15-clause-place
-returns-in-8-to-15-clause-place c =
+pub returns-in-8-to-31-clause-place : goal.returns-in-8-to-31-clause-place
+returns-in-8-to-31-clause-place c =
     elim c.if-from-mask.branch [
       | then-from-mask+else-found-eq1+else-not-what+else-found-ne0 w ↦
-          after_marks c.args.what c.args.bytes.now c.args.mask c.args.from _ _ c.requires.mask c.requires.after (omega arith) (omega arith) w.unread-is c.mask_all-in-8-to-15.ensures.place
-      | else-from-mask w ↦ unmoved c.args.what c.args.bytes.now c.args.from _ _ w.unread-is c.mask_all-in-8-to-15.ensures.place
-    ]
-
-pub returns-in-16-to-31-clause-place : goal.returns-in-16-to-31-clause-place
-returns-in-16-to-31-clause-place c =
-    elim c.if-from-mask.branch [
-      | then-from-mask+else-found-eq1+else-not-what+else-found-ne0 w ↦
-          after_marks c.args.what c.args.bytes.now c.args.mask c.args.from _ _ c.requires.mask c.requires.after (omega arith) (omega arith) w.unread-is c.mask_all-in-16-to-31.ensures.place
-      | else-from-mask w ↦ unmoved c.args.what c.args.bytes.now c.args.from _ _ w.unread-is c.mask_all-in-16-to-31.ensures.place
+          after_marks c.args.what c.args.bytes.now c.args.mask c.args.from _ _ c.requires.mask c.requires.after (omega arith) (omega arith) w.unread-is c.mask_all-in-8-to-31.ensures.place
+      | else-from-mask w ↦ unmoved c.args.what c.args.bytes.now c.args.from _ _ w.unread-is c.mask_all-in-8-to-31.ensures.place
     ]
 
 pub returns-in_default-clause-place : goal.returns-in_default-clause-place

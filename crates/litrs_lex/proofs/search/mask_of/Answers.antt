@@ -1,13 +1,10 @@
-use Rattle.std.proofs.Common.{◌≡◌, cond, ap, sym, ◌∙◌, w8, arith}
-use Rattle.std.proofs.lemmas.Simd.{length-chunk, chunk-fits}
-use lib.Lanes.{chunk}
+use Rattle.std.proofs.Common.{◌≡◌, cond, ap, sym, ◌∙◌}
 use Rattle.litrs_lex.proofs.Needles.{marks_special}
-use Rattle.litrs_lex.proofs.search.special_mask.Goals as goal
-use Rattle.litrs_lex.proofs.search.special_mask.Goals.{then-what, else-what, then-what-2, else-what-2, then-what-3, else-what-3}
+use Rattle.litrs_lex.proofs.search.mask_of.Goals as goal
+use Rattle.litrs_lex.proofs.search.mask_of.Goals.{then-what, else-what, then-what-2, else-what-2, then-what-3, else-what-3}
 
 pub returns : goal.returns
 returns g c =
-    let bytes = c.args.bytes.now in
     let second : c.if-what.second ≡ cond c.args.what.backslash 92 13 = elim c.if-what.branch [
       | then-what w ↦ w.second-is ∙ sym (ap (λ b. cond b 92 13) w.if-what.true)
       | else-what w ↦ w.second-is ∙ sym (ap (λ b. cond b 92 13) w.if-what.false)
@@ -20,5 +17,4 @@ returns g c =
       | then-what-3 w ↦ w.limit-is ∙ sym (ap (λ b. cond b 127 255) w.if-what-3.true)
       | else-what-3 w ↦ w.limit-is ∙ sym (ap (λ b. cond b 127 255) w.if-what-3.false)
     ] in
-    marks_special c.args.what (chunk c.args.at g.row.N bytes) g.row.N _ _ _ (length-chunk c.args.at g.row.N bytes c.requires.0) (omega arith)
-    (chunk-fits w8 c.args.at g.row.N bytes c.type_inv.bytes) second third limit
+    marks_special c.args.what c.args.lanes g.row.N _ _ _ c.fits-lanes.0 c.requires c.fits-lanes.1 second third limit
