@@ -1,5 +1,5 @@
 //! Integers from their value.
-ghost use Rattle.std.specs.Prelude.{◌≡◌, ◌≤◌, ◌<◌, ◌∷◌, ◌++◌, [], ◌↔◌, ◌⊎◌, ◌&&◌, ◌==◌, not, filter, length, drop, replicate, string_bytes, IsTrue, IfOk, IfErr, OnOk, IsErrOf, if◌then◌else◌};
+ghost use Rattle.std.specs.Prelude.{◌≡◌, ◌≤◌, ◌<◌, ◌/◌, ◌%◌, ◌∷◌, ◌++◌, [], ◌↔◌, ◌⊎◌, ◌&&◌, ◌==◌, not, filter, length, drop, replicate, string_bytes, IsTrue, IfOk, IfErr, OnOk, IsErrOf, if◌then◌else◌};
 ghost use Rattle.std.specs.Char.{digit_char, is_ascii_digit};
 ghost use Rattle.std.specs.List.{list_all, list_any};
 ghost use Rattle.std.specs.Str.{chars, IsAscii};
@@ -24,11 +24,14 @@ use std::alloc::{AllocError, Global};
 /// The greatest number of digits of a 128 bit number, in base two.
 const MAX_DIGITS: usize = 128;
 
-/// 10^19, the greatest power of ten below 2^64.
-const CHUNK: u128 = 0x8AC7_2304_89E8_0000;
+/// 10^9, the greatest power of ten below 2^32.
+const CHUNK: u128 = 1_000_000_000;
 
 /// The number of decimal digits of a number below [`CHUNK`], with leading zeros.
-const CHUNK_DIGITS: usize = 19;
+const CHUNK_DIGITS: usize = 9;
+
+/// 2^32, the base of the digits of a long division.
+const DIGIT: u128 = 1 << 32;
 
 /// Builds the integer with this value, base and suffix, for example `0xffu8` from 255,
 /// `Hexadecimal` and `u8`. See [`grouped_integer`], which also writes `_` between groups of digits.
@@ -195,11 +198,25 @@ fn write_decimal(value: u128, buffer: &mut [u8; MAX_DIGITS]) -> usize
     let mut rest = value;
     let mut end = MAX_DIGITS;
     while rest >> 64 != 0 {
-        itoa::write_digits((rest % CHUNK) as u64, buffer, end);
+        let (quotient, chunk) = divide_by_chunk(rest);
+        itoa::write_digits(chunk, buffer, end);
         end -= CHUNK_DIGITS;
-        rest /= CHUNK;
+        rest = quotient;
     }
     itoa::write_digits(rest as u64, buffer, end)
+}
+
+/// Returns the quotient and the remainder of `value` by [`CHUNK`]. It is a long division by digits
+/// of 32 bits: each operand fits 64 bits, so there is no slow division of 128 bits.
+fn divide_by_chunk(value: u128) -> (u128, u64)
+    ensures quotient { result.0 ≡ value / CHUNK }
+    ensures remainder { result.1 ≡ value % CHUNK }
+{
+    let high = value >> 64;
+    let middle = high % CHUNK * DIGIT + (value >> 32) % DIGIT;
+    let low = middle % CHUNK * DIGIT + value % DIGIT;
+    let quotient = (high / CHUNK * DIGIT + middle / CHUNK) * DIGIT + low / CHUNK;
+    (quotient, (low % CHUNK) as u64)
 }
 
 /// Like [`write_digits`], in this radix. The compiler knows it, and shifts in place of a division
