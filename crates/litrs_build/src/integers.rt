@@ -424,11 +424,12 @@ fn push_groups(text: &mut String, digits: &[u8], group: usize) -> Result<(), All
         return push_ascii(text, digits);
     }
     let mut rest = digits;
+    let mut len = digits.len().saturating_sub(1) % group + 1;
     while rest.len() > group {
-        let first = (rest.len() - 1) % group + 1;
-        push_ascii(text, &rest[..first])?;
+        push_ascii(text, &rest[..len])?;
         text.push('_')?;
-        rest = &rest[first..];
+        rest = &rest[len..];
+        len = group;
     }
     push_ascii(text, rest)
 }
