@@ -25,13 +25,13 @@ use std::alloc::{AllocError, Global};
 const MAX_DIGITS: usize = 128;
 
 /// 10^9, the greatest power of ten below 2^32.
-const CHUNK: u128 = 1_000_000_000;
+const CHUNK: u64 = 1_000_000_000;
 
 /// The number of decimal digits of a number below [`CHUNK`], with leading zeros.
 const CHUNK_DIGITS: usize = 9;
 
 /// 2^32, the base of the digits of a long division.
-const DIGIT: u128 = 1 << 32;
+const DIGIT: u64 = 1 << 32;
 
 /// Builds the integer with this value, base and suffix, for example `0xffu8` from 255,
 /// `Hexadecimal` and `u8`. See [`grouped_integer`], which also writes `_` between groups of digits.
@@ -207,16 +207,18 @@ fn write_decimal(value: u128, buffer: &mut [u8; MAX_DIGITS]) -> usize
 }
 
 /// Returns the quotient and the remainder of `value` by [`CHUNK`]. It is a long division by digits
-/// of 32 bits: each operand fits 64 bits, so there is no slow division of 128 bits.
+/// of 32 bits, in place of a division of 128 bits, which takes longer.
 fn divide_by_chunk(value: u128) -> (u128, u64)
     ensures quotient { result.0 ≡ value / CHUNK }
     ensures remainder { result.1 ≡ value % CHUNK }
 {
-    let high = value >> 64;
-    let middle = high % CHUNK * DIGIT + (value >> 32) % DIGIT;
-    let low = middle % CHUNK * DIGIT + value % DIGIT;
-    let quotient = (high / CHUNK * DIGIT + middle / CHUNK) * DIGIT + low / CHUNK;
-    (quotient, (low % CHUNK) as u64)
+    let high = (value >> 64) as u64;
+    let low = (value % (1 << 64)) as u64;
+    let middle = high % CHUNK * DIGIT + low / DIGIT;
+    let last = middle % CHUNK * DIGIT + low % DIGIT;
+    let quotient = middle / CHUNK * DIGIT + last / CHUNK;
+    let front = u128::from(high / CHUNK) << 64;
+    (front + u128::from(quotient), last % CHUNK)
 }
 
 /// Like [`write_digits`], in this radix. The compiler knows it, and shifts in place of a division
