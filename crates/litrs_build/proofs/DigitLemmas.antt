@@ -315,29 +315,29 @@ take_within e s xs before within =
     ap (take e) (sym (take-append-drop s xs))
     ∙ take-append-le e (take s xs) (drop s xs) (omega (arith, len))
 
--- A chunk of 19 digits, `digits` of them without leading zeros, is written up to `end`.
+-- A chunk of 9 digits, `digits` of them without leading zeros, is written up to `end`.
 pub write_chunk : (end start : ℕ) (digits before after : List ℕ) →
-    19 ≤ end → start + length digits ≡ end → length digits ≤ 19 → end ≤ length after →
+    9 ≤ end → start + length digits ≡ end → length digits ≤ 9 → end ≤ length after →
     take end before ≡ replicate end 48 → take start after ≡ take start before →
     drop start after ≡ digits ++ drop end before → end ≤ length before →
-    (take (end - 19) after ≡ replicate (end - 19) 48)
-    × (drop (end - 19) after ≡ (replicate (19 - length digits) 48 ++ digits) ++ drop end before)
+    (take (end - 9) after ≡ replicate (end - 9) 48)
+    × (drop (end - 9) after ≡ (replicate (9 - length digits) 48 ++ digits) ++ drop end before)
 write_chunk end start digits before after room starts few within zeros kept written within_before =
-    let e = end - 19 in
+    let e = end - 9 in
     let front : take start after ≡ replicate start 48 = kept
     ∙ (take_within start end before (omega arith) within_before
     ∙ (ap (take start) zeros ∙ take-replicate start end 48 (omega arith))) in
     let whole : replicate start 48 ++ (digits ++ drop end before) ≡ after
     = (λ i. sym front i ++ sym written i) ∙ take-append-drop start after in
     let len = length-replicate {A = ℕ} start 48 in
-    let left : start - e ≡ 19 - length digits = omega arith in (
+    let left : start - e ≡ 9 - length digits = omega arith in (
       take_within e start after (omega arith) (omega arith)
           ∙ (ap (take e) front ∙ take-replicate e start 48 (omega arith)),
       ap (drop e) (sym whole)
           ∙ (drop-append-le e (replicate start 48) (digits ++ drop end before) (omega (arith, len))
           ∙ (ap (λ zs. zs ++ (digits ++ drop end before))
           (drop-replicate e start 48 ∙ ap (λ n. replicate n 48) left)
-          ∙ sym (append_assoc (replicate (19 - length digits) 48) digits (drop end before)))),
+          ∙ sym (append_assoc (replicate (9 - length digits) 48) digits (drop end before)))),
     )
 
 pub written_fits : (n : ℕ) → n < 2 ^ 128 → length (written_digits Decimal n) ≤ 128
@@ -350,32 +350,28 @@ written_fits n small = elim (cases_eq n 0) [
       omega (arith, same, len, fits))
 ]
 
--- A number above 64 bits has the digits of its quotient, and 19 more.
-pub next_chunk : (n : ℕ) → 2 ^ 64 ≤ n →
-    let q = n / 10000000000000000000 in
-    let r = n % 10000000000000000000 in
+-- A number above 64 bits has the digits of its quotient, and 9 more.
+pub next_chunk : (n q r : ℕ) → 2 ^ 64 ≤ n → q ≡ n / 1000000000 → r ≡ n % 1000000000 →
     ((digits : List ℕ) → digits ≡ written_digits Decimal r → (rest now : List ℕ) →
-    now ≡ (replicate (19 - length digits) 48 ++ digits) ++ rest →
+    now ≡ (replicate (9 - length digits) 48 ++ digits) ++ rest →
     written_digits Decimal q ++ now ≡ written_digits Decimal n ++ rest)
-    × (length (written_digits Decimal q) + 19 ≡ length (written_digits Decimal n))
-next_chunk n large =
-    let q = n / 10000000000000000000 in
-    let r = n % 10000000000000000000 in
-    let sum : q * 10 ^ 19 + r ≡ n = omega arith in
-    let all : written_digits Decimal n ≡ written_digits Decimal q ++ padded 19 r
+    × (length (written_digits Decimal q) + 9 ≡ length (written_digits Decimal n))
+next_chunk n q r large q_is r_is =
+    let sum : q * 10 ^ 9 + r ≡ n = omega arith in
+    let all : written_digits Decimal n ≡ written_digits Decimal q ++ padded 9 r
     = not_zero n (omega arith) ∙ (sym (ap all_digits sum)
-    ∙ (in_chunks 18 q r (omega arith) (omega arith)
-    ∙ ap (λ ds. ds ++ padded 19 r) (sym (not_zero q (omega arith))))) in
+    ∙ (in_chunks 8 q r (omega arith) (omega arith)
+    ∙ ap (λ ds. ds ++ padded 9 r) (sym (not_zero q (omega arith))))) in
     let few = ap length (sym (decimal_digits r (omega arith))) in
-    let at_most = length-decimal-le 19 r (omega arith) (omega arith) (omega arith) in
-    let joined = length-append (replicate (19 - length (written_digits Decimal r)) 48) (written_digits Decimal r) in
-    let zeros = length-replicate {A = ℕ} (19 - length (written_digits Decimal r)) 48 in
-    let both = length-append (written_digits Decimal q) (padded 19 r) in
+    let at_most = length-decimal-le 9 r (omega arith) (omega arith) (omega arith) in
+    let joined = length-append (replicate (9 - length (written_digits Decimal r)) 48) (written_digits Decimal r) in
+    let zeros = length-replicate {A = ℕ} (9 - length (written_digits Decimal r)) 48 in
+    let both = length-append (written_digits Decimal q) (padded 9 r) in
     let whole = ap length all in (
       λ digits same rest now is.
           ap (λ t. written_digits Decimal q ++ t) is
-          ∙ (ap (λ ds. written_digits Decimal q ++ ((replicate (19 - length ds) 48 ++ ds) ++ rest)) same
-          ∙ (sym (append_assoc (written_digits Decimal q) (padded 19 r) rest)
+          ∙ (ap (λ ds. written_digits Decimal q ++ ((replicate (9 - length ds) 48 ++ ds) ++ rest)) same
+          ∙ (sym (append_assoc (written_digits Decimal q) (padded 9 r) rest)
           ∙ ap (λ ds. ds ++ rest) (sym all))),
       omega (arith, few, at_most, joined, zeros, both, whole),
     )

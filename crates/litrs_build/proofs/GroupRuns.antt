@@ -3,7 +3,7 @@ use Rattle.std.proofs.Common.{◌≡◌, ℕ, zero, suc, ◌+◌, ◌-◌, ◌*�
 use Rattle.std.specs.Prelude.{if◌then◌else◌}
 use Rattle.std.proofs.lemmas.Bool.{and_from, and_right, eq-eqb, ne_eqb, lt-ltb}
 use Rattle.std.proofs.lemmas.List.{append_assoc, take-append-drop, length-take-le, length-drop}
-use Rattle.std.proofs.Math.Nat.{mod-lt, mod-eq_of_lt, mod-add-div', add-mul-mod_self_right}
+use Rattle.std.proofs.Math.Nat.{mod-eq_of_lt, mod-add-div', add-mul-mod_self_right}
 use Rattle.litrs_build.specs.WrittenDigits.{ends_group, grouped}
 
 -- no group ends within its digits
@@ -61,7 +61,7 @@ grouped_split group (d ∷ e ∷ part) after some few more is =
     ∙ ap (λ t. d ∷ t) (grouped_split group (e ∷ part) after (omega arith) (omega arith) more is)
 
 -- the digits after the first group are whole groups
-rest_whole : (group n first : ℕ) → 0 < group → 0 < n → first ≡ (n - 1) % group + 1 →
+pub rest_whole : (group n first : ℕ) → 0 < group → 0 < n → first ≡ (n - 1) % group + 1 →
     (n - first) % group ≡ 0
 rest_whole group n first some more is =
     let parts = mod-add-div' (n - 1) group in
@@ -70,18 +70,17 @@ rest_whole group n first some more is =
     ∙ (add-mul-mod_self_right 0 ((n - 1) / group) group ∙ mod-eq_of_lt some)
 
 -- one group is written
-pub group_step : (group first : ℕ) (old part mid new rest after total : List ℕ) → 0 < group →
-    group < length rest → first ≡ (length rest - 1) % group + 1 →
+pub group_step : (group first : ℕ) (old part mid new rest after total : List ℕ) → 0 < first →
+    first ≤ group → group < length rest → (length rest - first) % group ≡ 0 →
     part ≡ take first rest → after ≡ drop first rest → mid ≡ old ++ part → new ≡ mid ++ 95 ∷ [] →
     old ++ grouped group rest ≡ total → new ++ grouped group after ≡ total
-group_step group first old part mid new rest after total some many is front back mid_is new_is whole =
-    let below : (length rest - 1) % group < group = mod-lt (length rest - 1) some in
+group_step group first old part mid new rest after total some few many is front back mid_is new_is whole =
     let front_len : length part ≡ first = ap length front
     ∙ length-take-le first rest (omega arith) in
     let back_len : length after ≡ length rest - first = ap length back
     ∙ length-drop first rest in
     let left : length after % group ≡ 0 =
-    ap (λ n. n % group) back_len ∙ rest_whole group (length rest) first some (omega arith) is in
+    ap (λ n. n % group) back_len ∙ is in
     let split : part ++ after ≡ rest =
     (λ i. front i ++ back i) ∙ take-append-drop first rest in
     let groups : grouped group rest ≡ part ++ 95 ∷ grouped group after =

@@ -1,5 +1,5 @@
 //! Integers from their value.
-ghost use Rattle.std.specs.Prelude.{◌≡◌, ◌≤◌, ◌<◌, ◌∷◌, ◌++◌, [], ◌↔◌, ◌⊎◌, ◌&&◌, ◌==◌, not, filter, length, drop, replicate, string_bytes, IsTrue, IfOk, IfErr, OnOk, IsErrOf, if◌then◌else◌};
+ghost use Rattle.std.specs.Prelude.{◌≡◌, ◌≤◌, ◌<◌, ◌/◌, ◌%◌, ◌∷◌, ◌++◌, [], ◌↔◌, ◌⊎◌, ◌&&◌, ◌==◌, not, filter, length, drop, replicate, string_bytes, IsTrue, IfOk, IfErr, OnOk, IsErrOf, if◌then◌else◌};
 ghost use Rattle.std.specs.Char.{digit_char, is_ascii_digit};
 ghost use Rattle.std.specs.List.{list_all, list_any};
 ghost use Rattle.std.specs.Str.{chars, IsAscii};
@@ -24,11 +24,14 @@ use std::alloc::{AllocError, Global};
 /// The greatest number of digits of a 128 bit number, in base two.
 const MAX_DIGITS: usize = 128;
 
-/// 10^19, the greatest power of ten below 2^64.
-const CHUNK: u128 = 0x8AC7_2304_89E8_0000;
+/// 10^9, the greatest power of ten below 2^32.
+const CHUNK: u64 = 1_000_000_000;
 
 /// The number of decimal digits of a number below [`CHUNK`], with leading zeros.
-const CHUNK_DIGITS: usize = 19;
+const CHUNK_DIGITS: usize = 9;
+
+/// 2^32, the base of the digits of a long division.
+const DIGIT: u64 = 1 << 32;
 
 /// Builds the integer with this value, base and suffix, for example `0xffu8` from 255,
 /// `Hexadecimal` and `u8`. See [`grouped_integer`], which also writes `_` between groups of digits.
@@ -195,11 +198,27 @@ fn write_decimal(value: u128, buffer: &mut [u8; MAX_DIGITS]) -> usize
     let mut rest = value;
     let mut end = MAX_DIGITS;
     while rest >> 64 != 0 {
-        itoa::write_digits((rest % CHUNK) as u64, buffer, end);
+        let (quotient, chunk) = divide_by_chunk(rest);
+        itoa::write_digits(chunk, buffer, end);
         end -= CHUNK_DIGITS;
-        rest /= CHUNK;
+        rest = quotient;
     }
     itoa::write_digits(rest as u64, buffer, end)
+}
+
+/// Returns the quotient and the remainder of `value` by [`CHUNK`]. It is a long division by digits
+/// of 32 bits, in place of a division of 128 bits, which takes longer.
+fn divide_by_chunk(value: u128) -> (u128, u64)
+    ensures quotient { result.0 ≡ value / CHUNK }
+    ensures remainder { result.1 ≡ value % CHUNK }
+{
+    let high = (value >> 64) as u64;
+    let low = (value % (1 << 64)) as u64;
+    let middle = high % CHUNK * DIGIT + low / DIGIT;
+    let last = middle % CHUNK * DIGIT + low % DIGIT;
+    let quotient = middle / CHUNK * DIGIT + last / CHUNK;
+    let front = u128::from(high / CHUNK) << 64;
+    (front + u128::from(quotient), last % CHUNK)
 }
 
 /// Like [`write_digits`], in this radix. The compiler knows it, and shifts in place of a division
@@ -407,11 +426,12 @@ fn push_groups(text: &mut String, digits: &[u8], group: usize) -> Result<(), All
         return push_ascii(text, digits);
     }
     let mut rest = digits;
+    let mut len = digits.len().saturating_sub(1) % group + 1;
     while rest.len() > group {
-        let first = (rest.len() - 1) % group + 1;
-        push_ascii(text, &rest[..first])?;
+        push_ascii(text, &rest[..len])?;
         text.push('_')?;
-        rest = &rest[first..];
+        rest = &rest[len..];
+        len = group;
     }
     push_ascii(text, rest)
 }

@@ -1,6 +1,6 @@
 -- A chunk of digits with leading zeros, after those of the quotient. The digits of a number of 64
 -- bits are those that `{}` writes.
-use Rattle.std.proofs.Common.{◌≡◌, ◌≤◌, ◌<◌, ◌-◌, ◌%◌, ◌^◌, ◌++◌, length, drop, ap, ◌∙◌, arith, rules}
+use Rattle.std.proofs.Common.{◌≡◌, ◌≤◌, ◌<◌, ◌-◌, ◌^◌, ◌++◌, length, drop, ap, ◌∙◌, arith, rules}
 use Rattle.std.specs.Fmt.{decimal}
 use Rattle.std.proofs.lemmas.Fmt.{length-decimal-le}
 use Rattle.std.proofs.lemmas.List.{append-nil, drop_all, take_all}
@@ -28,8 +28,9 @@ write_digits-requires c =
     let rest = c.loop-rest.rest in
     let held = c.loop-rest.invariant in
     let large : 2 ^ 64 ≤ rest = omega (arith, c.loop-rest-test.true) in
-    let next = next_chunk rest large in
-    let few = length-decimal-le 19 (rest % 10000000000000000000) (omega arith) (omega arith) (omega arith) in
+    let divided = c.divide_by_chunk-quotient.ensures in
+    let next = next_chunk rest _ _ large divided.quotient divided.remainder in
+    let few = length-decimal-le 9 c.divide_by_chunk-quotient.result.1 (omega arith) (omega arith) (omega arith) in
     (omega (arith, few, next.1, held.fits), omega (arith, held.within, held.room))
 
 pub overflow_sub-end : goal.overflow_sub-end
@@ -37,7 +38,8 @@ overflow_sub-end c =
     let rest = c.loop-rest.rest in
     let held = c.loop-rest.invariant in
     let large : 2 ^ 64 ≤ rest = omega (arith, c.loop-rest-test.true) in
-    omega (arith, (next_chunk rest large).1, held.fits)
+    let divided = c.divide_by_chunk-quotient.ensures in
+    omega (arith, (next_chunk rest _ _ large divided.quotient divided.remainder).1, held.fits)
 
 pub loop-rest-preserved : goal.loop-rest-preserved
 loop-rest-preserved c =
@@ -46,11 +48,12 @@ loop-rest-preserved c =
     let before = c.loop-rest.buffer in
     let after = c.write_digits.new.buf in
     let held = c.loop-rest.invariant in
-    let low = rest % 10000000000000000000 in
+    let low = c.divide_by_chunk-quotient.result.1 in
     let large : 2 ^ 64 ≤ rest = omega (arith, c.loop-rest-test.true) in
-    let next = next_chunk rest large in
+    let divided = c.divide_by_chunk-quotient.ensures in
+    let next = next_chunk rest _ _ large divided.quotient divided.remainder in
     let same = decimal_digits low (omega arith) in
-    let few = length-decimal-le 19 low (omega arith) (omega arith) (omega arith) in
+    let few = length-decimal-le 9 low (omega arith) (omega arith) (omega arith) in
     let room : length after ≡ 128 = search rules in
     let chunk = write_chunk end c.write_digits.result (decimal low) before after
     (omega (arith, next.1, held.fits)) c.write_digits.ensures.start few
@@ -61,7 +64,7 @@ loop-rest-preserved c =
       room = room;
       fits = omega (arith, next.1, held.fits);
       zeros = chunk.0;
-      written = next.0 (decimal low) same (drop end before) (drop (end - 19) after) chunk.1 ∙ held.written;
+      written = next.0 (decimal low) same (drop end before) (drop (end - 9) after) chunk.1 ∙ held.written;
     }
 
 pub write_digits-requires-2 : goal.write_digits-requires-2
