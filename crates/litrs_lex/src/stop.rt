@@ -143,11 +143,16 @@ fn begins_with_stop(bytes: &[u8]) -> bool
     matches!(bytes.first(), Some(b'\\' | b'"'))
 }
 
-/// Returns `text` without its last character, for example without the closing quote.
+/// Returns `text` without its last character. An ASCII character, for example a closing quote, is
+/// cut off without decoding it.
 #[inline(always)]
 fn without_last(text: &str) -> &str
     ensures { chars result.now ≡ without_last (chars text.now) }
 {
+    let bytes = text.as_bytes();
+    if bytes.len() > 0 && bytes[bytes.len() - 1] < 128 {
+        return &text[..bytes.len() - 1];
+    }
     let mut chars = text.chars();
     chars.next_back();
     chars.as_str()

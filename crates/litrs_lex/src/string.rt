@@ -251,10 +251,8 @@ fn read_twice<C: EscapeContainer, A: Allows>(
                 return Ok((None, place + 1));
             }
             let made = container_for(alloc, counted.len, allowed)?;
-            Ok((
-                Some(fill_container(input, offset, from, allowed, value, made)),
-                place + 1,
-            ))
+            let filled = fill_container(input, offset, from, allowed, value, made);
+            Ok((Some(filled), place + 1))
         }
         Reached::Full(_) => unreachable!(),
         Reached::Refused(_, e) => Err(e),

@@ -17,7 +17,7 @@ returns-then-counted-place g c =
 pub returns-in_ok-made-in-Quote : goal.returns-in_ok-made-in-Quote
 returns-in_ok-made-in-Quote g c =
     let body = c.in-Quote.ensures.reached in
-    some_of _ c.args.input.now _ _ _ _ c.utf8.input c.requires.at body body.read.held c.in_ok-check_after_quote-in-Quote.ensures.ok c.if-counted-place.false _ c.fill_container.ensures
+    some_of _ c.args.input.now _ _ _ _ c.utf8.input c.requires.at body body.read.held c.in_ok-check_after_quote-in-Quote.ensures.ok c.if-counted-place.false _ c.fill_container-filled.ensures
 
 pub returns-in_err-made-in-Quote : goal.returns-in_err-made-in-Quote
 returns-in_err-made-in-Quote g c =
@@ -28,8 +28,8 @@ returns-in_err-made-in-Quote g c =
 pub returns-in-Refused : goal.returns-in-Refused
 returns-in-Refused g c = inl c.in-Refused.ensures.reached.1
 
-pub fill_container-requires-clause-room : goal.fill_container-requires-clause-room
-fill_container-requires-clause-room g c =
+pub fill_container-filled-requires-clause-room : goal.fill_container-filled-requires-clause-room
+fill_container-filled-requires-clause-room g c =
     let body = c.in-Quote.ensures.reached in
     within_of _ c.args.input.now _ _ _ _ _ _ c.utf8.input c.requires.at body body.read.held c.in_ok-check_after_quote-in-Quote.ensures.ok c.in_ok-made-in-Quote.ensures.room
 
