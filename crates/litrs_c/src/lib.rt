@@ -164,6 +164,7 @@ pub extern "C" fn litrs_parse(alloc: Global, text: &[u8]) -> Answer
     let Ok(text) = str::from_utf8(text) else {
         return only_status(NOT_UTF8);
     };
+    // Each arm returns, so that the answer is written once, into the memory of the caller.
     match Literal::parse(alloc, text) {
         Ok(lit) => {
             let mut answer = only_status(LITERAL);
