@@ -148,6 +148,7 @@ pub struct StaticText {
 ///
 /// There is one allocation for the value of a C string, and of a quoted string or byte string with
 /// a backslash, if the value is not empty. It is freed before the call returns.
+#[tactic(auto, using(crate::proofs::Memory::lacks_memory))]
 #[unsafe(no_mangle)]
 pub extern "C" fn litrs_parse(alloc: Global, text: &[u8]) -> Answer
     ensures statuses { result.status ≤ OUT_OF_MEMORY }
@@ -160,9 +161,26 @@ pub extern "C" fn litrs_parse(alloc: Global, text: &[u8]) -> Answer
     ensures no_literal { result.status ≢ LITERAL → result.literal ≡ NO_LITERAL }
     ensures no_refusal { result.status ≢ REFUSED → result.refusal ≡ NO_REFUSAL }
 {
-    let mut answer = only_status(NOT_UTF8);
-    litrs_parse_into(alloc, text, &mut answer);
-    answer
+    let Ok(text) = str::from_utf8(text) else {
+        return only_status(NOT_UTF8);
+    };
+    // Each arm returns, so that the answer is written once, into the memory of the caller.
+    match Literal::parse(alloc, text) {
+        Ok(lit) => {
+            let mut answer = only_status(LITERAL);
+            write_literal_fields(&lit, &mut answer.literal);
+            return answer;
+        }
+        Err(e) => match e.kind() {
+            ParseErrorKind::OutOfMemory => return only_status(OUT_OF_MEMORY),
+            _ => {
+                return Answer {
+                    refusal: refusal_fields(&e),
+                    ..only_status(REFUSED)
+                };
+            }
+        },
+    }
 }
 
 /// Writes to `answer` what [`litrs_parse`] returns: the status, and the literal or the error if the

@@ -23,14 +23,21 @@ pub(crate) const NO_REFUSAL: RefusalFields = RefusalFields {
 pub(crate) fn refusal_fields(error: &ParseError) -> RefusalFields
     ensures { IsRefusalFields error.now result }
 {
-    let span = error.span();
-    RefusalFields {
+    let fields = RefusalFields {
         kind: error_code(error.kind()),
-        has_span: span.is_some(),
         is_final: error.is_final(),
         is_open: error.is_open(),
+        ..NO_REFUSAL
+    };
+    let span = error.span();
+    if span.is_none() {
+        return fields;
+    }
+    RefusalFields {
+        has_span: true,
         span: span_place(span),
         char_span: span_place(error.char_span()),
+        ..fields
     }
 }
 
@@ -49,7 +56,6 @@ fn span_place(span: Option<Range<usize>>) -> Place
 }
 
 /// Returns the number of the kind in `enum litrs_error`.
-#[inline(always)]
 fn error_code(kind: ParseErrorKind) -> u32
     ensures { result ≡ error_code kind }
 {
