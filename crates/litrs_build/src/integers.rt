@@ -25,13 +25,13 @@ use std::alloc::{AllocError, Global};
 const MAX_DIGITS: usize = 128;
 
 /// 10^9, the greatest power of ten below 2^32.
-const CHUNK: u64 = 1_000_000_000;
+const CHUNK: u64 = 0x3B9A_CA00;
 
 /// The number of decimal digits of a number below [`CHUNK`], with leading zeros.
 const CHUNK_DIGITS: usize = 9;
 
 /// 2^32, the base of the digits of a long division.
-const DIGIT: u64 = 1 << 32;
+const DIGIT: u64 = 0x1_0000_0000;
 
 /// Builds the integer with this value, base and suffix, for example `0xffu8` from 255,
 /// `Hexadecimal` and `u8`. See [`grouped_integer`], which also writes `_` between groups of digits.
@@ -213,7 +213,7 @@ fn divide_by_chunk(value: u128) -> (u128, u64)
     ensures remainder { result.1 ≡ value % CHUNK }
 {
     let high = (value >> 64) as u64;
-    let low = (value % (1 << 64)) as u64;
+    let low = (value % 0x1_0000_0000_0000_0000) as u64;
     let middle = high % CHUNK * DIGIT + low / DIGIT;
     let last = middle % CHUNK * DIGIT + low % DIGIT;
     let quotient = middle / CHUNK * DIGIT + last / CHUNK;

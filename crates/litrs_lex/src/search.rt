@@ -149,7 +149,7 @@ fn wide_mask(bytes: &[u8], at: usize, width: usize, what: Special) -> u64
     let first = Simd::<u8, 8>::from_slice(&bytes[at..]);
     let last = Simd::<u8, 8>::from_slice(&bytes[at + width - 8..]);
     let lanes = first.shuffle::<16>(last, [0, 1, 2, 3, 4, 5, 6, 7, 8, 9, 10, 11, 12, 13, 14, 15]);
-    mask_of(lanes, what) % (1 << width)
+    mask_of(lanes, what) & 0xFFFF >> (16 - width)
 }
 
 /// Like [`next_special`], with a mask, for at least 32 bytes, by 32 bytes a step. The last load is
