@@ -135,8 +135,8 @@ fn mask_all(bytes: &[u8], start: usize, width: usize, what: Special) -> (usize, 
     (lowest_bit_place(bits, start, end), mask)
 }
 
-/// Returns the mask of the `width` bytes from `at` on, for a width of 4, 8 or 16. For 8 and 16 the
-/// loads are the same, so that no branch tells them apart, which would be hard to predict.
+/// Returns the mask of the `width` bytes from `at` on, for a width of 4, 8 or 16. For 8 and 16 there
+/// are two loads of 8 bytes, without a branch, which would be hard to predict.
 #[inline(always)]
 fn wide_mask(bytes: &[u8], at: usize, width: usize, what: Special) -> u64
     requires within { at + width ≤ length bytes.now }
@@ -149,6 +149,7 @@ fn wide_mask(bytes: &[u8], at: usize, width: usize, what: Special) -> u64
     let first = Simd::<u8, 8>::from_slice(&bytes[at..]);
     let last = Simd::<u8, 8>::from_slice(&bytes[at + width - 8..]);
     let lanes = first.shuffle::<16>(last, [0, 1, 2, 3, 4, 5, 6, 7, 8, 9, 10, 11, 12, 13, 14, 15]);
+    // If `width` is 8, both loads are the same, and the upper half of the mask is cut off.
     mask_of(lanes, what) & 0xFFFF >> (16 - width)
 }
 
