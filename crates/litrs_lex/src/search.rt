@@ -135,8 +135,8 @@ fn mask_all(bytes: &[u8], start: usize, width: usize, what: Special) -> (usize, 
     (lowest_bit_place(bits, start, end), mask)
 }
 
-/// Returns the mask of the `width` bytes from `at` on, for a width of 4, 8 or 16. For 8 and 16 there
-/// are two loads of 8 bytes, without a branch, which would be hard to predict.
+/// Returns the mask of the `width` bytes from `at` on, for a width of 4, 8 or 16. For 8 and 16 it
+/// takes two loads of 8 bytes, without a branch, which would be hard to predict.
 #[inline(always)]
 fn wide_mask(bytes: &[u8], at: usize, width: usize, what: Special) -> u64
     requires within { at + width ≤ length bytes.now }
