@@ -206,8 +206,8 @@ fn write_decimal(value: u128, buffer: &mut [u8; MAX_DIGITS]) -> usize
     itoa::write_digits(rest as u64, buffer, end)
 }
 
-/// Returns the quotient and the remainder of `value` by [`CHUNK`]. This is a long division by digits
-/// of 32 bits. A division of 128 bits would be a call of a function.
+/// Returns the quotient and the remainder of `value` by [`CHUNK`]. This is a long division, by
+/// digits of 32 bits. A division of 128 bits would be a call of a function.
 fn divide_by_chunk(value: u128) -> (u128, u64)
     ensures quotient { result.0 ≡ value / CHUNK }
     ensures remainder { result.1 ≡ value % CHUNK }
