@@ -39,7 +39,7 @@ enum litrs_status {
     LITRS_LITERAL = 0,       /* the text is a literal */
     LITRS_REFUSED = 1,       /* the text is not a literal */
     LITRS_NOT_UTF8 = 2,      /* the bytes are not UTF-8 */
-    LITRS_OUT_OF_MEMORY = 3, /* no memory for the value of a literal, or for one to write */
+    LITRS_OUT_OF_MEMORY = 3, /* no memory for a value, a number's digits, or a literal */
     LITRS_NO_STRING = 4,     /* of litrs_value: the text is a literal, but not a string */
     LITRS_NO_PREFIX = 5,     /* of the calls on prefixes: no literal begins at the front */
     LITRS_NO_NUMBER = 6      /* of litrs_f64, litrs_f32: it is not an integer or a float */
@@ -133,7 +133,7 @@ typedef struct litrs_place {
     size_t end;
 } litrs_place;
 
-/* A literal. A field that its kind does not have is 0, false, or the place 0..0. */
+/* A literal. A field that its kind does not have, except suffix, is 0, false, or the place 0..0. */
 typedef struct litrs_literal {
     uint32_t kind;           /* enum litrs_kind */
     uint32_t base;           /* of an integer: 2, 8, 10 or 16 */
@@ -224,7 +224,7 @@ uint32_t litrs_f64(const uint8_t *text, size_t len, double *value);
 uint32_t litrs_f32(const uint8_t *text, size_t len, float *value);
 
 /* Writes the message of the error, as much as fits, if the status is LITRS_REFUSED. It is ASCII,
- * has no closing zero, and needs no memory. */
+ * without a closing zero. The call allocates like litrs_parse. */
 litrs_written litrs_message(const uint8_t *text, size_t len, uint8_t *room, size_t room_len);
 
 /* Returns true if the text, or the text with some text appended, is a literal. */
@@ -244,7 +244,7 @@ litrs_bool litrs_next_token(litrs_cursor *cursor, litrs_token *token);
 size_t litrs_parse_prefix_at(const litrs_cursor *cursor, litrs_answer *answer);
 
 /* Writes the literal of a value, as much as fits, if the status is LITRS_LITERAL: the string of a
- * text, for example "a\nb"; the byte string of bytes; the integer of value_low and 2^64 times
+ * text, for example "a\nb"; the byte string of bytes; the integer value_low plus 2^64 times
  * value_high, in base ten. The suffix may be empty. The status is LITRS_REFUSED if no such literal
  * has the suffix, and LITRS_NOT_UTF8 if the text or the suffix is not UTF-8. */
 litrs_written litrs_write_string(const uint8_t *value, size_t value_len, const uint8_t *suffix,
@@ -268,7 +268,7 @@ LITRS_INLINE const char *litrs_version(void) {
     return version.text;
 }
 
-/* Returns the name of a kind of literals: "Bool" of LITRS_BOOL, "CString" of LITRS_C_STRING. It is
+/* Returns the name of a kind of literals: "Bool" for LITRS_BOOL, "CString" for LITRS_C_STRING. It is
  * "Unknown" for a number that enum litrs_kind does not have. */
 LITRS_INLINE const char *litrs_kind_name(uint32_t kind) {
     litrs_static_text name = {"", 1};
@@ -276,7 +276,7 @@ LITRS_INLINE const char *litrs_kind_name(uint32_t kind) {
     return name.text;
 }
 
-/* Returns the name of a kind of errors: "InvalidDigit" of LITRS_ERROR_INVALID_DIGIT. It is
+/* Returns the name of a kind of errors: "InvalidDigit" for LITRS_ERROR_INVALID_DIGIT. It is
  * "Unknown" for a number that enum litrs_error does not have. */
 LITRS_INLINE const char *litrs_error_name(uint32_t error) {
     litrs_static_text name = {"", 1};
@@ -284,7 +284,7 @@ LITRS_INLINE const char *litrs_error_name(uint32_t error) {
     return name.text;
 }
 
-/* Returns the name of a kind of tokens: "RawIdent" of LITRS_TOKEN_RAW_IDENT. It is "Unknown" also
+/* Returns the name of a kind of tokens: "RawIdent" for LITRS_TOKEN_RAW_IDENT. It is "Unknown" also
  * for a number that enum litrs_token_kind does not have. */
 LITRS_INLINE const char *litrs_token_kind_name(uint32_t kind) {
     litrs_static_text name = {"", 1};

@@ -101,9 +101,9 @@ class Literal:
     """A literal.
 
     kind      "Bool", "Integer", "Float", "Char", "Byte", "String", "ByteString" or "CString"
-    value     a bool; an int of an integer and a byte; the float nearest to a float, whatever its
-              suffix, or inf if it is too large; a str of a char and a string; bytes of a byte
-              string and a C string
+    value     a bool; an int for an integer or a byte; the float nearest to a float, whatever its
+              suffix, or inf if it is too large; a str for a char or a string; bytes for a byte
+              string or a C string
     suffix    such as "u8", or ""
     base      of an integer: 2, 8, 10 or 16; else 0
     is_raw    True for a raw string of one of the three kinds

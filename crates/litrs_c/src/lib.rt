@@ -40,7 +40,7 @@ pub const LITERAL: u32 = 0;
 pub const REFUSED: u32 = 1;
 /// The bytes are not UTF-8.
 pub const NOT_UTF8: u32 = 2;
-/// An allocation failed: for the value of a literal, or for a literal to write.
+/// An allocation failed: for a value, a number's digits, or a literal to write.
 pub const OUT_OF_MEMORY: u32 = 3;
 /// The text is a literal, but not a string, a byte string or a C string.
 pub const NO_STRING: u32 = 4;
@@ -57,13 +57,13 @@ pub struct Place {
     pub end: usize,
 }
 
-/// A literal. A field that a kind does not have is 0, `false`, or the place 0..0.
+/// A literal. A field that a kind does not have, except `suffix`, is 0, `false`, or the place 0..0.
 #[repr(C)]
 #[derive(Clone, Copy)]
 pub struct LiteralFields {
     /// `enum litrs_kind`.
     pub kind: u32,
-    /// The number of digits of an integer's base: 2, 8, 10 or 16.
+    /// The base of an integer: 2, 8, 10 or 16.
     pub base: u32,
     /// `true` for a raw string of one of the three kinds.
     pub is_raw: bool,

@@ -81,7 +81,7 @@ pub extern "C" fn litrs_write_bytes(
     }
 }
 
-/// Writes the integer with the value `value_low` and 2^64 times `value_high` in base ten, for
+/// Writes the integer with the value `value_low` plus 2^64 times `value_high` in base ten, for
 /// example `255u8`. The status is an error if no such integer has the suffix. Otherwise, it is like
 /// [`litrs_write_string`].
 #[unsafe(no_mangle)]

@@ -117,7 +117,7 @@ fn files<'a>(alloc: Global) -> Arg<'a> {
     Arg::new(alloc, "file")
         .value_name("FILE")
         .action(ArgAction::Append)
-        .help("Files to read; - or none: the standard input")
+        .help("Files; -, or neither FILE nor TEXT: the standard input")
 }
 
 /// Returns what a command line asks for.

@@ -90,7 +90,7 @@ pub fn explanation<B: Buffer>(alloc: Global, literal: &Literal<B>) -> Result<Str
 ///
 /// # Errors
 ///
-/// Returns `AllocError` if an allocation fails. Then a part of the lines may have been appended.
+/// Returns `AllocError` if an allocation fails. Then some text may have been appended.
 pub fn push_explanation<B: Buffer>(out: &mut String, literal: &Literal<B>) -> Result<(), AllocError>
     ensures kept { take (length (string_bytes out.old)) (string_bytes out.new)
         ≡ string_bytes out.old }

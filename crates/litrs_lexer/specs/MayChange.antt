@@ -42,8 +42,8 @@ is_malformed MalformedLiteral = true
 is_malformed kind = false
 
 -- `true` iff more text can change the token of this kind, which is not a malformed literal, at the
--- front of the text, up to the rest. Then the token is at the end, and neither a closed comment nor
--- one character; or it is a `/` at the end. Or only hashes follow a prefix, with which more text
+-- front of the text, up to the rest. Then the token is at the end, and is neither a closed comment,
+-- unknown, nor punctuation other than `/`. Or only hashes follow a prefix, with which more text
 -- begins a literal or a raw name.
 abbrev pub is_open : TokenKind → (t rest : List ℕ) → Bool
 is_open BlockComment t rest = false

@@ -1,5 +1,5 @@
 //! The texts whose first token more text can change.
-ghost use Rattle.std.specs.Prelude.{◌≡◌, codes, IsTrue, IsFalse};
+ghost use Rattle.std.specs.Prelude.{◌≡◌, [], codes, IsTrue, IsFalse};
 ghost use Rattle.std.specs.Str.{chars};
 ghost use Rattle.litrs_base.specs.Text.{is_empty, is_text};
 ghost use Rattle.litrs_lexer.specs.MayChange.{TokenStays, TokenChanges, is_malformed, is_open};
@@ -14,11 +14,12 @@ use litrs_prefix::{is_open_front, prefix_may_change};
 ///
 /// If the result is `false`, the token is at the front of every longer text, with the same kind and
 /// text. So a reader of pieces takes it, and an editor keeps it while the text before the edit
-/// stays. A token at the end of the text may change, unless it is a closed block comment, or one
-/// character other than `/`. Another token may change in three cases: `r`, `br` or `cr` before
+/// stays. A token at the end of the text may change, unless it is a closed block comment, `Unknown`
+/// or punctuation other than `/`. Another token may change in three cases: `r`, `br` or `cr` before
 /// hashes up to the end, `'r` before `#` at the end, and `'` or `b'` before a line feed at the end.
 /// The call does not allocate.
 pub fn token_may_change(text: &str) -> bool
+    ensures empty { text.now ≡ [] → IsTrue result }
     ensures stays { IsFalse result → TokenStays (chars text.now) }
     ensures changes { IsTrue result → TokenChanges (chars text.now) }
 {

@@ -101,7 +101,7 @@ literal_front type negative d (Kind a b) t front rest r found = (d, found)
 literal_front type negative d (Sign a) t front rest r found = (d, found)
 literal_front type negative d (Suffix a n) t front rest r found = (d, found)
 literal_front type negative d (OutOfRange a) t front rest r found = (d, found)
-literal_front type negative d Memory t front rest r found = tt
+literal_front type negative d Memory t front rest r found = (d, found)
 
 pub refused_prefix : (type : ValueType) (text raw rest : List ℕ) (d : Derivation) (e : PrefixError) → IsUtf8 text → IsUtf8 rest → raw ++ rest ≡ unsigned text
     → HasPrefix (chars (unsigned text)) d (chars rest) → Refuses type (is_negative text) d e.error → e.len ≡ length text - length rest → IsPrefixError type text e × IsMarkedIn text e
@@ -124,7 +124,7 @@ refused_prefix type text raw rest d e utf8 rest_utf8 spells found refuses len =
 -- a malformed literal after the sign
 module _ (type : ValueType) (text : List ℕ) (m : MalformedPrefix) (utf8 : IsUtf8 text) where
   malformed_cut : (front rest : List ℕ) (n len : ℕ) → front ++ rest ≡ chars (unsigned text) → byte_len front ≡ n → len ≡ sign_len text + n
-      → IsCutAfter text n len × (chars (unsigned (take len text)) ≡ front)
+      → IsCutAfter text n len × (chars (unsigned (take len text)) ≡ front) × (chars (drop len text) ≡ rest)
   malformed_cut front rest n len spells size place =
       let u : List ℕ = unsigned text in
       let whole = IsUtf8-drop text (sign_len text) utf8 (sign_cut text utf8) in
@@ -132,7 +132,7 @@ module _ (type : ValueType) (text : List ℕ) (m : MalformedPrefix) (utf8 : IsUt
       let boundary : IsCharBoundary u n = subst (λ (k : ℕ). IsCharBoundary u k) size at.boundary in
       let after : chars (drop n u) ≡ rest = ap (λ k. chars (drop k u)) (sym size) ∙ at.rest in
       let cut = cut_after_sign text n len utf8 boundary place in
-      (cut, ap chars cut.rest_is ∙ front_is u n front rest whole boundary after spells)
+      (cut, ap chars cut.rest_is ∙ front_is u n front rest whole boundary after spells, ap chars cut.after_is ∙ after)
 
   -- its length is at most that of the text
   pub malformed_fits : IsMovedBy (sign_len text) (chars (unsigned text)) m → sign_len text + m.len ≤ length text
@@ -157,7 +157,7 @@ module _ (type : ValueType) (text : List ℕ) (m : MalformedPrefix) (utf8 : IsUt
           moved.char_span ∙ ap (λ k. shifted_span k (char_span_of o)) (sym sign),
         ) in
         let meant = subst (λ (t : List ℕ). IsMeant (chars (unsigned text)) t) (sym pair.1) is.meant in
-        ((error, (is.none, meant)), marked_in type text m.len (record { error = Malformed m.error; len = len }) cut error))
+        ((error, (is.opens, is.none, meant)), marked_in type text m.len (record { error = Malformed m.error; len = len }) cut error))
     | inr is ↦ absurd (other (ap (λ (r : Refusal). r.kind) moved.refusal ∙ ap (λ (r : Refusal). r.kind) is.refused.error))
   ]
 
@@ -169,5 +169,6 @@ module _ (type : ValueType) (text : List ℕ) (m : MalformedPrefix) (utf8 : IsUt
         let d : Derivation = is.refused.derivation in
         let pair = malformed_cut is.front is.rest m.len len is.spells (is.len ∙ sym moved.len) place in
         let error : IsValueError type (take len text) Memory = (d, subst (λ (t : List ℕ). IsLiteral t d) (sym pair.1) is.refused.literal, inl is.refused.allocated) in
-        ((error, tt), marked_in type text m.len (record { error = Memory; len = len }) pair.0 error))
+        let found = subst (λ (l : List ℕ). HasPrefix (chars (unsigned text)) d l) (sym pair.2) is.prefix in
+        ((error, (d, found)), marked_in type text m.len (record { error = Memory; len = len }) pair.0 error))
   ]

@@ -1,21 +1,21 @@
 -- Texts that start with a value.
-use Rattle.std.specs.Prelude.{ℕ, List, take, drop, ⊤}
+use Rattle.std.specs.Prelude.{ℕ, List, take, drop, IsTrue}
 use Rattle.std.specs.Str.{chars, IsCharBoundary}
 use Rattle.litrs.specs.CharEnd.{IsCutBy}
 use Rattle.litrs.specs.Literal.{Derivation}
 use Rattle.litrs_prefix.specs.Meant.{IsMeant}
+use Rattle.litrs_prefix.specs.Opens.{opens}
 use Rattle.litrs_prefix.specs.Prefix.{HasPrefix, HasNoPrefix}
 use Rattle.litrs_value.specs.Reads.{unsigned, IsValueError, marked}
 use Rattle.litrs_value.specs.declared.prefix.PrefixError.{PrefixError}
 use Rattle.litrs_value.specs.declared.value_type.ValueType.{ValueType}
 use Rattle.litrs_value.specs.declared.error.ValueError.{ValueError}
-use Rattle.litrs_value.specs.declared.error.ValueError.TheVariants.{Malformed, Memory}
+use Rattle.litrs_value.specs.declared.error.ValueError.TheVariants.{Malformed}
 
 -- The front of a text after its sign is the one that an error is about. This is the literal there,
--- or the malformed prefix if there is no literal.
+-- or the malformed prefix if a literal begins there and none is valid.
 abbrev pub IsFrontFor : ValueError → (t front rest : List ℕ) → Type 0
-IsFrontFor (Malformed e) t front rest = HasNoPrefix t × IsMeant t front
-IsFrontFor Memory t front rest = ⊤
+IsFrontFor (Malformed e) t front rest = IsTrue (opens t) × HasNoPrefix t × IsMeant t front
 IsFrontFor e t front rest = (d : Derivation) × HasPrefix t d rest
 
 -- The error is that of the first `len` bytes of the text, which are the front that it is about.

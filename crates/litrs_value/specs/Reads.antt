@@ -9,7 +9,7 @@ use Rattle.litrs.specs.Refusal.{refusal_of, char_span_of, shifted, shifted_span,
 use Rattle.litrs.specs.Refused.{IsRefused}
 use Rattle.litrs.specs.Text.{byte_len}
 use Rattle.litrs.specs.declared.ParseError.{ParseError}
-use Rattle.litrs_value.specs.Refuses.{Refuses, IsAllocated}
+use Rattle.litrs_value.specs.Refuses.{Refuses}
 use Rattle.litrs_value.specs.declared.value_type.ValueType.{ValueType}
 use Rattle.litrs_value.specs.declared.error.ValueError.{ValueError}
 use Rattle.litrs_value.specs.declared.error.ValueError.TheVariants.{Malformed, Suffix, Memory}
@@ -51,7 +51,7 @@ abbrev pub IsValueError : ValueType → List ℕ → ValueError → Type 0
 IsValueError type text (Malformed e) =
     IsRefusedAfter (is_negative text) (chars (unsigned text)) (Malformed e)
 IsValueError type text Memory = (d : Derivation) × IsReadAs text d
-    × (IsTrue (allocates d) ⊎ IsAllocated type d)
+    × (IsTrue (allocates d) ⊎ Refuses type (is_negative text) d Memory)
 IsValueError type text e = (d : Derivation) × IsReadAs text d × Refuses type (is_negative text) d e
 
 -- the part of the text that an error marks

@@ -43,8 +43,8 @@ IsAllocated (float_type t) (a_float d) = IsTrue (list_any is_underscore (number_
 IsAllocated (float_type t) (an_integer d) = IsLargeWithUnderscore d
 IsAllocated type d = ⊥
 
--- The first of these that fails: the kind, the sign, the suffix, the range; or memory, if reading
--- allocates.
+-- The first of these that fails: the kind, the sign, the suffix, the range; or memory, if the kind,
+-- the sign and the suffix fit, and reading allocates.
 abbrev pub Refuses : ValueType → (negative : Bool) → Derivation → ValueError → Type 0
 Refuses type negative d (Kind expected found) = (expected ≡ type) × (found ≡ kind_of_literal d)
     × IsFalse (accepts type (kind_of_literal d))
@@ -58,4 +58,4 @@ Refuses type negative d (Suffix expected len) = (expected ≡ type) × (len ≡ 
 Refuses type negative d (OutOfRange expected) =
     (expected ≡ type) × Fits type negative d × (¬ IsInRange type negative d)
 Refuses type negative d (Malformed e) = ⊥
-Refuses type negative d Memory = IsAllocated type d
+Refuses type negative d Memory = Fits type negative d × IsAllocated type d
