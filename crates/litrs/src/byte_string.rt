@@ -48,7 +48,8 @@ impl<B: Text> ByteStringLit<B> {
     /// Parses `input` as a byte string.
     ///
     /// For example, `b"a\xff"u8` has the suffix `u8`, and its value is the bytes of `a` and FF. If
-    /// the body is quoted and has a backslash, the value is allocated, once. Otherwise nothing is.
+    /// the body is quoted and has a backslash, the value is allocated, once unless it is empty.
+    /// Otherwise nothing is.
     ///
     /// # Errors
     ///

@@ -45,6 +45,7 @@ impl<B: Text> FloatLit<B> {
     #[inline(always)]
     pub(crate) fn new(raw: B, cut: FloatCut) -> FloatLit<B>
         requires { IsFloatAt cut (B.bytes raw) }
+        ensures buffer { result.buffer ≡ raw }
         ensures raw { result.raw ≡ B.bytes raw }
         ensures literal { IsFloatOf (chars result.raw) (float_parts result) }
     {

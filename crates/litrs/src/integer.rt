@@ -54,6 +54,7 @@ impl<B: Text> IntegerLit<B> {
     #[inline(always)]
     pub(crate) fn new(raw: B, cut: IntegerCut) -> IntegerLit<B>
         requires { IsIntegerAt cut (B.bytes raw) }
+        ensures buffer { result.buffer ≡ raw }
         ensures raw { result.raw ≡ B.bytes raw }
         ensures literal { IsIntegerOf (chars result.raw) (integer_parts result) }
     {

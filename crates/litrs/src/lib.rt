@@ -18,7 +18,7 @@
 //!
 //! A literal keeps the text that it was parsed from, a `&str` or a `String` ([`Buffer`]), and its
 //! parts are slices of it. Only the value of a C string, and of a quoted string or byte string with
-//! a backslash, is allocated, once. Over `&str` bools, numbers, chars and bytes are `Copy`.
+//! a backslash, is allocated, at most once. Over `&str` bools, numbers, chars and bytes are `Copy`.
 //!
 //! # Values
 //!
@@ -81,7 +81,7 @@ ghost use Rattle.litrs_grammar.specs.LiteralRefusals.{IsRefusal};
 ghost use Rattle.litrs_grammar.specs.Refused.{IsRefused, IsRefusedOrOutOfMemory};
 ghost use Rattle.litrs_lex.specs.Front.{IsFront};
 ghost use Rattle.litrs_lex.specs.NumberCut.{number_kind};
-ghost use Rattle.litrs.specs.LiteralDerivation.{literal_raw, derivation};
+ghost use Rattle.litrs.specs.LiteralDerivation.{literal_raw, derivation, HasBuffer, is_bool_literal};
 
 pub use bool::BoolLit;
 pub use byte::ByteLit;
@@ -140,8 +140,8 @@ impl<B: Text> Literal<B> {
     /// Parses `input` as a literal of any kind, which its start decides.
     ///
     /// For example, `true` is a bool, and `1_000u32` an integer with the suffix `u32`. The value of
-    /// a C string, and of a quoted string or byte string with a backslash, is allocated, once.
-    /// Otherwise nothing is.
+    /// a C string, and of a quoted string or byte string with a backslash, is allocated, once
+    /// unless it is empty. Otherwise nothing is.
     ///
     /// # Errors
     ///
@@ -152,6 +152,7 @@ impl<B: Text> Literal<B> {
     // Inlined, like each parse: CONTRIBUTING says why.
     #[inline(always)]
     pub fn parse(alloc: Global, input: B) -> Result<Literal<B>, ParseError>
+        ensures buffer { IfOk result (HasBuffer input) }
         ensures raw { IfOk result (λ lit. literal_raw lit ≡ B.bytes input) }
         ensures ok { IfOk result (λ lit.
             IsOnlyDerivation (IsLiteral (chars (B.bytes input))) (derivation lit)) }
@@ -176,6 +177,7 @@ impl<B: Text> Literal<B> {
     #[inline(always)]
     fn parse_number(input: B) -> Result<Literal<B>, ParseError>
         requires { IsTrue (first_passes is_ascii_digit (B.bytes input)) }
+        ensures buffer { IfOk result (HasBuffer input) }
         ensures raw { IfOk result (λ lit. literal_raw lit ≡ B.bytes input) }
         ensures literal { IfOk result (λ lit. IsLiteral (chars (B.bytes input)) (derivation lit)) }
         ensures refused { IfErr result
@@ -196,6 +198,7 @@ impl<B: Text> Literal<B> {
         front: Front,
     ) -> Result<Literal<B>, ParseError>
         requires { IsFront front (B.bytes input) }
+        ensures buffer { IfOk result (HasBuffer input) }
         ensures raw { IfOk result (λ lit. literal_raw lit ≡ B.bytes input) }
         ensures literal { IfOk result (λ lit. IsLiteral (chars (B.bytes input)) (derivation lit)) }
         ensures refused { IfErr result (IsRefusedOrOutOfMemory
@@ -261,6 +264,7 @@ impl<B: Text> Literal<B> {
         ensures raw { IfOk result (λ copy. literal_raw copy ≡ literal_raw self.now) }
         ensures parts { IfOk result (λ copy. derivation copy ≡ derivation self.now) }
         ensures succeeds { B.owns ≡ false → allocates (derivation self.now) ≡ false → IsOk result }
+        ensures bool { IsTrue (is_bool_literal self.now) → IsOk result }
     {
         match self {
             Literal::Bool(lit) => Ok(Literal::Bool(*lit)),
@@ -284,6 +288,7 @@ impl Literal<&str> {
     pub fn into_owned(self, alloc: Global) -> Result<Literal<String>, AllocError>
         ensures raw { IfOk result (λ owned. literal_raw owned ≡ literal_raw self.entry) }
         ensures parts { IfOk result (λ owned. derivation owned ≡ derivation self.entry) }
+        ensures bool { IsTrue (is_bool_literal self.entry) → IsOk result }
     {
         match self {
             Literal::Bool(lit) => Ok(Literal::Bool(lit)),

@@ -48,7 +48,8 @@ impl<B: Text> StringLit<B> {
     /// Parses `input` as a string.
     ///
     /// For example, `"a\nb"u8` has the suffix `u8`, and its value is `a`, LF and `b`. If the body
-    /// is quoted and has a backslash, the value is allocated, once. Otherwise nothing is.
+    /// is quoted and has a backslash, the value is allocated, once unless it is empty. Otherwise
+    /// nothing is.
     ///
     /// # Errors
     ///

@@ -27,7 +27,9 @@ pub enum Escapes {
     /// Characters stay as they are. An escape keeps its form, and its digits are written anew: in
     /// the case of the style, and in `\u{..}` without `_` and leading zeros.
     Respelled,
-    /// A character is escaped if and only if [`string`](crate::string) escapes it.
+    /// A character is escaped as [`char`](crate::char), [`byte`](crate::byte) or
+    /// [`string`](crate::string) escapes it. An LF that `lines` keeps is not escaped, but a blank
+    /// after a kept continuation is.
     Needed,
 }
 

@@ -1,5 +1,5 @@
 -- The front of a text: the bytes that follow it, and the error of an allocation failure.
-use Rattle.std.proofs.Common.{◌≡◌, ℕ, List, ◌++◌, length, drop, refl, sym, ap, ◌∙◌, subst, inl, inr}
+use Rattle.std.proofs.Common.{◌≡◌, ℕ, ◌+◌, ◌≤◌, List, ◌++◌, length, drop, refl, sym, ap, ◌∙◌, subst, inl, inr, length-append, arith}
 use Rattle.std.proofs.Math.Seq.{drop-append_seam}
 use Rattle.std.specs.Str.{chars}
 use Rattle.litrs_base.specs.declared.err.ParseErrorKind.TheVariants.{OutOfMemory}
@@ -18,6 +18,11 @@ prefix_at raw rest text len d spells is at =
     let left : drop len text ≡ rest =
     ap (λ (n : ℕ). drop n text) is ∙ ap (λ (l : List ℕ). drop (length raw) l) (sym spells) ∙ drop-append_seam raw rest in
     subst (λ (l : List ℕ). HasPrefix (chars text) d (chars l)) (sym left) at
+
+pub front_within : (raw rest text : List ℕ) (len : ℕ) → raw ++ rest ≡ text → len ≡ length raw → len ≤ length text
+front_within raw rest text len spells is =
+    let size : length text ≡ length raw + length rest = ap length (sym spells) ∙ length-append raw rest in
+    omega arith
 
 pub lacks_memory_at : (t : List ℕ) (m : MalformedPrefix) → IsMalformedOrOutOfMemory t m → kind_of m.error ≡ OutOfMemory → LacksMemoryAt t m.len
 lacks_memory_at t m (inl malformed) is =

@@ -117,8 +117,7 @@ impl Collector {
     ///
     /// # Errors
     ///
-    /// Returns `AllocError` if an allocation fails. Then the lines held are those of before the
-    /// call.
+    /// Returns `AllocError` if an allocation fails. Then the lines held are unchanged.
     pub fn feed(&mut self, line: &str) -> Result<Step, AllocError>
         ensures step { IfOk result (IsStep (self.old ++ line.now)) }
         ensures utf8 { OnOk result (IsUtf8 (self.old ++ line.now)) }
@@ -137,8 +136,7 @@ impl Collector {
     ///
     /// # Errors
     ///
-    /// Returns `AllocError` if an allocation fails. Then the lines held are those of before the
-    /// call.
+    /// Returns `AllocError` if an allocation fails. Then the lines held are unchanged.
     pub fn feed_skip_empty(&mut self, line: &str) -> Result<Option<Step>, AllocError>
         ensures empty { IfOk result (λ fed. IsNone fed ↔ (self.old ++ line.now ≡ [])) }
         ensures step { IfOk result (λ fed. IfSome fed (IsStep (self.old ++ line.now))) }
@@ -165,8 +163,7 @@ impl Collector {
     ///
     /// # Errors
     ///
-    /// Returns `AllocError` if an allocation fails. Then the lines held are those of before the
-    /// call.
+    /// Returns `AllocError` if an allocation fails. Then the lines held are unchanged.
     pub fn feed_prefix<'a>(&mut self, line: &'a str) -> Result<PrefixStep<'a>, AllocError>
         ensures step { IfOk result (IsPrefixStep (self.old ++ line.now)) }
         ensures rest { IfOk result (EndsInLine line.now) }
@@ -227,8 +224,7 @@ impl Collector {
     ///
     /// # Errors
     ///
-    /// Returns `AllocError` if an allocation fails. Then the lines held are those of before the
-    /// call.
+    /// Returns `AllocError` if an allocation fails. Then the lines held are unchanged.
     #[inline(always)]
     pub fn push(&mut self, line: &str) -> Result<bool, AllocError>
         ensures pushed { IfOk result (Pushes self.old line.now self.new) }
@@ -286,8 +282,7 @@ impl Collector {
     ///
     /// # Errors
     ///
-    /// Returns `AllocError` if an allocation fails. Then the lines held are those of before the
-    /// call.
+    /// Returns `AllocError` if an allocation fails. Then the lines held are unchanged.
     pub fn take_with(&mut self, line: &str) -> Result<String, AllocError>
         ensures text { IfOk result (λ text. string_bytes text ≡ self.old ++ line.now) }
         ensures held { OnOk result (self.new ≡ []) }

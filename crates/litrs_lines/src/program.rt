@@ -4,6 +4,7 @@ ghost use Rattle.std.specs.Io.KnownBytes.{IsAtEnd, Keeps};
 ghost use Rattle.std.specs.Process.{exit_status};
 ghost use Rattle.litrs_lines.specs.Lines.{lines_of};
 ghost use Rattle.litrs_lines.specs.Reports.{AppendsReports};
+ghost use Rattle.litrs_lines.specs.Stopped.{StopsWithin};
 
 use crate::{Input, Output, run};
 use std::alloc::Global;
@@ -32,6 +33,10 @@ pub fn run_program<I: Input, O: Output, M: Write>(
     ensures flushed { exit_status result ≡ 0 → O.is_flushed writer.new ≡ true }
     ensures silent { exit_status result ≡ 0
         → Keeps (M.contents messages.old) (M.contents messages.new) }
+
+    // Otherwise the bytes written are a prefix of the reports on the whole lines that were read.
+    ensures err { exit_status result ≡ 1 → StopsWithin (I.remaining reader.old)
+        (I.remaining reader.new) (O.contents writer.old) (O.contents writer.new) }
 
     // A device that failed is seen in the status.
     ensures read_failed { I.has_failed reader.new ≡ true → exit_status result ≡ 1 }

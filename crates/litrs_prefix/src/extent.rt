@@ -11,7 +11,7 @@ use litrs_base::begins_with_digit;
 use litrs_lex::{Run, run_end};
 
 /// Returns the length in bytes of the literal at the front of `text`, suffix included, or `None` if
-/// there is none, malformed or not. It does not allocate: the value of the literal is not made.
+/// no valid literal is there. It does not allocate: the value of the literal is not made.
 ///
 /// The result is `Some(1)` for `1.max(2)`, `Some(4)` for `"a"b + c`, and `None` for `0b12` and
 /// `foo`.

@@ -109,7 +109,7 @@ pub fn is_empty(text: &str) -> bool
     text.is_empty()
 }
 
-/// Returns the part of `text` after the name at its front: all of it if it starts with none.
+/// Returns the part of `text` after the name at its front: all of it if there is none.
 pub fn after_name(text: &str) -> &str
     ensures rest { chars result.now ≡ after_name (chars text.now) }
     ensures end { IsEndOf text.now result.now }

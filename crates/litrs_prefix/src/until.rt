@@ -13,9 +13,9 @@ use std::alloc::Global;
 /// a character of `delimiters`, as one literal. Returns it with the rest, which starts with the
 /// delimiter, or is empty if there is none.
 ///
-/// A delimiter within the literal at the front, such as the comma of `"a,b", 2`, does not count: it
-/// is looked for after the closing quote and the name that follows. The white space before it
-/// belongs neither to the literal nor to the rest.
+/// A delimiter within the literal at the front, such as the comma of `"a,b", 2`, does not count. It
+/// is looked for after the closing quote and the name that follows. The white space before it, as
+/// [`str::trim_end`] knows it, belongs neither to the literal nor to the rest.
 ///
 /// [`parse_prefix_at`](crate::parse_prefix_at) takes `1` of `1.e4, 2`, as Rust does. This call
 /// rejects `1.e4`, with the error of [`Literal::parse`]. It allocates like

@@ -2,7 +2,7 @@
 //! shows the error, at most 100 columns of a line.
 #![tactic(auto)]
 
-ghost use Rattle.std.specs.Prelude.{◌≡◌, ◌↔◌, IfOk, IfSome, IsNone, string_bytes};
+ghost use Rattle.std.specs.Prelude.{◌≡◌, ◌↔◌, IfOk, IfSome, IfNone, IsNone, string_bytes};
 ghost use Rattle.uses_prompt.specs.Answered.{IsAnswerTo, IsAnswered, IsLastAnswer, IsReply, Quits};
 
 use litrs::{Literal, ParseErrorKind};
@@ -81,6 +81,7 @@ fn last_answer(alloc: Global, collector: Collector) -> Result<String, AllocError
 /// Returns an error if an allocation fails.
 fn reply(alloc: Global, collector: &mut Collector, line: &[u8]) -> io::Result<Option<String>>
     ensures quits { IfOk result (λ reply. IsNone reply ↔ Quits line.now) }
+    ensures stays { IfOk result (λ reply. IfNone reply (collector.new ≡ collector.old)) }
     ensures answered { IfOk result (λ reply. IfSome reply (λ answer.
         IsReply collector.old line.now collector.new (string_bytes answer))) }
 {

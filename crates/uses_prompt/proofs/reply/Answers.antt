@@ -20,6 +20,7 @@ returns-in_ok-answer-in_default c =
         λ quits. absurd (c.in_default.not-text
             (without_return_is_unique c.args.line.now stripped (codes ":quit") without quits)),
       );
+      stays = tt;
       answered = record {
         text = λ _. (stripped, without, c.in_ok-answer-in_default.ensures);
         ignored = λ not. absurd (not c.in-Ok.ensures.cases.1);

@@ -3,7 +3,7 @@ use Rattle.std.specs.Str.{chars}
 use Rattle.litrs.specs.LiteralDerivation.{derivation, literal_raw}
 use Rattle.litrs_c.specs.LiteralFields.{IsLiteralFields}
 use Rattle.litrs_c.proofs.Memory.{out_of_memory_not_refused}
-use Rattle.litrs_c.proofs.Prefixes.{prefix_at, lacks_memory_at}
+use Rattle.litrs_c.proofs.Prefixes.{prefix_at, front_within, lacks_memory_at}
 use Rattle.litrs_c.proofs.prefix.parse_prefix_text.Goals as goal
 
 pub returns-in-Ok-Some-clause-literal : goal.returns-in-Ok-Some-clause-literal
@@ -14,6 +14,7 @@ returns-in-Ok-Some-clause-literal c = λ _.
     let len : length c.raw_input.result.now ≡ length (literal_raw lit) = ap length c.raw_input.ensures.raw in (
       derivation lit,
       prefix_at (literal_raw lit) c.in-Ok-Some.prefix.rest.now c.args.text.now (length c.raw_input.result.now) (derivation lit) spells len found,
+      front_within (literal_raw lit) c.in-Ok-Some.prefix.rest.now c.args.text.now (length c.raw_input.result.now) spells len,
       subst (λ (n : ℕ). IsLiteralFields n (derivation lit) c.write_literal_fields.new.fields) (sym len) c.write_literal_fields.ensures,
     )
 
