@@ -1,11 +1,11 @@
 //! Conversions of tokens to literals.
-ghost use Rattle.std.specs.Prelude.{◌≡◌, ℕ, List, Ok, IfOk, IfErr, IsErrOf, OnOk, string_bytes};
+ghost use Rattle.std.specs.Prelude.{◌≡◌, ℕ, List, Ok, IsOk, IsTrue, IfOk, IfErr, IsErrOf, OnOk, string_bytes};
 ghost use Rattle.std.specs.Result.{IsErrAnd};
 ghost use Rattle.std.specs.Str.{chars};
 ghost use Rattle.litrs_base.specs.Refusal.{kind_of};
 ghost use Rattle.litrs.specs.LiteralDerivation.{literal_raw};
 ghost use Rattle.litrs_token.specs.Conversion.{IsWantedKind, IsWanted};
-ghost use Rattle.litrs_token.specs.BoolTree.{text_of};
+ghost use Rattle.litrs_token.specs.BoolTree.{is_bool_ident, text_of};
 ghost use Rattle.litrs_token.specs.LiteralToken.{IsLiteralToken, SomeLiteral};
 ghost use Rattle.litrs_token.specs.Mismatch.{literal_mismatch, tree_mismatch};
 ghost use Rattle.litrs_token.specs.Tree.{shape_of};
@@ -103,6 +103,8 @@ pub trait FromToken: Drop {
     fn from_tree(alloc: Global, tree: TokenTree) -> Result<Self, TokenError>
         ensures raw { IfOk result (λ lit. raw lit ≡ text_of (shape_of tree)) }
         ensures wanted { OnOk result (IsWanted wanted (shape_of tree)) }
+        ensures bool { wanted ≡ TokenKind.Literal → IsTrue (is_bool_ident (shape_of tree))
+            → IsOk result }
         ensures memory { IsWanted wanted (shape_of tree)
             → IfErr result (λ e. e ≡ TokenError.Memory) }
         ensures invalid { ¬ IsWanted wanted (shape_of tree)
@@ -117,6 +119,8 @@ pub trait FromToken: Drop {
     fn from_tree_ref(alloc: Global, tree: &TokenTree) -> Result<Self, TokenError>
         ensures raw { IfOk result (λ lit. raw lit ≡ text_of (shape_of tree.now)) }
         ensures wanted { OnOk result (IsWanted wanted (shape_of tree.now)) }
+        ensures bool { wanted ≡ TokenKind.Literal → IsTrue (is_bool_ident (shape_of tree.now))
+            → IsOk result }
         ensures memory { IsWanted wanted (shape_of tree.now)
             → IfErr result (λ e. e ≡ TokenError.Memory) }
         ensures invalid { ¬ IsWanted wanted (shape_of tree.now)
