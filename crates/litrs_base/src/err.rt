@@ -243,7 +243,7 @@ pub enum ParseErrorKind {
     NonAsciiXEscape,
     /// A byte or a byte string has a `\u` escape.
     UnicodeEscapeInByteLiteral,
-    /// The first character inside `\u{..}` is not a hex digit.
+    /// The braces of `\u{..}` are empty, or begin with `_`.
     InvalidStartOfUnicodeEscape,
     /// `\u` is not followed by `{`.
     UnicodeEscapeWithoutBrace,

@@ -35,7 +35,7 @@ impl IntegerBase {
         }
     }
 
-    /// Returns the number of digits of this base: 2, 8, 10 or 16.
+    /// Returns this base as a number: 2, 8, 10 or 16.
     pub fn value(self) -> u8
         ensures { result ≡ base_value self }
     {

@@ -27,7 +27,7 @@ const SHORT: usize = 128;
 /// The size in bytes of the second buffer, for values that do not fit the first.
 const LONG: usize = 4096;
 
-/// The size in bytes of the third buffer. A longer value is read twice.
+/// The size in bytes of the third buffer. The rest of a longer value is read twice.
 const LONGEST: usize = 4 * LONG;
 
 /// Unescapes a quoted literal whose body starts at `offset`. Returns the value, or `None` if the
