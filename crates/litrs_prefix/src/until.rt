@@ -25,7 +25,7 @@ use std::alloc::Global;
 ///
 /// Returns the error of [`Literal::parse`] for the text before the delimiter, with its length: for
 /// example `Empty` for `, 2`, and `InvalidLiteral` for `-1, 2`. An unterminated string extends to
-/// the end of `source`. The spans count from the start of `source`.
+/// the end of `source`, without the white space there. The spans count from the start of `source`.
 pub fn parse_until<'a>(
     alloc: Global,
     source: &'a str,
