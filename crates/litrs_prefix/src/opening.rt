@@ -109,7 +109,7 @@ pub fn is_empty(text: &str) -> bool
     text.is_empty()
 }
 
-/// Returns the part of `text` after the name at its front: all of it if there is none.
+/// Returns the part of `text` after the name at its front, or all of `text` if no name is there.
 pub fn after_name(text: &str) -> &str
     ensures rest { chars result.now ≡ after_name (chars text.now) }
     ensures end { IsEndOf text.now result.now }
