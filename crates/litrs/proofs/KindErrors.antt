@@ -19,6 +19,7 @@ use Rattle.litrs_base.specs.declared.quotes.StringKind.TheVariants.{CString as c
 use Rattle.litrs_base.specs.declared.quotes.StringKind.{StringKind}
 use Rattle.litrs_grammar.proofs.Laws.Literal.{literals_are_unique}
 use Rattle.litrs_grammar.proofs.Refused.{is_refused}
+use Rattle.litrs.proofs.OutOfMemory.{of_any_kind}
 use Rattle.litrs_lex.specs.NumberCut.{number_kind}
 use Rattle.litrs_lex.proofs.NumberBytes.{kind_by_bytes}
 use Rattle.litrs_lex.specs.declared.kind.Front.{Front}
@@ -38,12 +39,7 @@ kind_refused kind t e is refused =
 kind_error : (kind : LiteralKind) (t : List ℕ) (e : ParseError) → dispatch t ≡ parsed_as kind → IsRefusedOrOutOfMemory (kind_parse kind) t e →
     IsRefusedOrOutOfMemory literal_parse t e
 kind_error kind t e is (inl refused) = inl (kind_refused kind t e is refused)
-kind_error kind t e is (inr lack) = inr (record {
-  derivation = lack.derivation;
-  literal = lack.literal.1;
-  allocated = lack.allocated;
-  error = lack.error;
-})
+kind_error kind t e is (inr lack) = inr (of_any_kind (kind_parse kind) t e lack)
 
 -- Likewise by the answer of the code's dispatch on the bytes
 

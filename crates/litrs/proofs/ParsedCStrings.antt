@@ -31,6 +31,7 @@ c_out_of_memory bs kept start_suffix e parsed is = record {
   derivation = a_c_string parsed.parts;
   literal = (refl, parsed.derives);
   allocated = refl;
+  takes = refl;
   error = is;
 }
 

@@ -1,5 +1,5 @@
 -- The error of a text that is not a string, or whose value cannot be allocated.
-use Rattle.std.proofs.Common.{◌≡◌, ◌⊎◌, inl, inr, ℕ, true, false, List, [], ◌∷◌, length, refl, sym, ap, ◌∙◌, subst}
+use Rattle.std.proofs.Common.{◌≡◌, ◌≢◌, ◌⊎◌, inl, inr, ℕ, true, false, not, List, [], ◌∷◌, length, refl, sym, ap, ◌∙◌, subst}
 use Rattle.std.specs.Str.{chars, IsUtf8}
 use Rattle.std.proofs.lemmas.Str.{chars-nil}
 use Rattle.litrs_base.specs.declared.err.ParseError.{ParseError}
@@ -12,11 +12,11 @@ use Rattle.litrs_base.proofs.ListTests.{if_false}
 use Rattle.litrs_base.specs.declared.quotes.StringKind.{StringKind}
 use Rattle.litrs_base.specs.declared.quotes.StringKind.TheVariants.{String as string_kind, ByteString as byte_string_kind, CString as c_string_kind}
 use Rattle.litrs_base.specs.Quotes.{switches_of, quoted_front, raw_front}
-use Rattle.litrs_grammar.specs.Quoted.{IsQuoted, IsQuotedRefusal}
+use Rattle.litrs_grammar.specs.Quoted.{QuotedParts, body_value, IsQuoted, IsQuotedRefusal}
 use Rattle.litrs_grammar.specs.Raw.{has_unicode, allows_nul, raw_refusal}
 use Rattle.litrs_grammar.specs.Literal.{StringParts, quoted_parts, Derivation, a_string, a_byte_string, a_c_string, IsString, kind_parse, IsLiteralOf, string_literal_of}
 use Rattle.litrs_grammar.specs.LiteralRefusals.{StringStart, refused_start, quoted_start, raw_start, string_start, string_start_refusal, IsRefusalOfStart, IsStringRefusal, IsKindRefusal}
-use Rattle.litrs_grammar.specs.Allocation.{has_escapes, allocates}
+use Rattle.litrs_grammar.specs.Allocation.{has_escapes, allocates, takes_memory}
 use Rattle.litrs_grammar.specs.Refused.{IsRefused, IsOutOfMemory, IsRefusedOrOutOfMemory}
 use Rattle.litrs_grammar.proofs.Laws.Literal.{start_quoted, start_raw}
 use Rattle.litrs_grammar.proofs.Refused.{is_refused}
@@ -90,6 +90,17 @@ escapes_allocate string_kind d h = h
 escapes_allocate byte_string_kind d h = h
 escapes_allocate c_string_kind d h = refl
 
+not_empty : (t : List ℕ) → t ≢ [] → is_empty t ≡ false
+not_empty [] some = absurd (some refl)
+not_empty (c ∷ t) some = refl
+
+-- a value that is not empty takes memory, and so does each value of a C string
+values_take_memory : (kind : StringKind) (d : QuotedParts) → ((switches_of kind).allow_nul ≡ true → body_value d.items ≢ []) →
+    takes_memory (derivation_of kind (quoted_parts d)) ≡ true
+values_take_memory string_kind d some = ap not (not_empty (body_value d.items) (some refl))
+values_take_memory byte_string_kind d some = ap not (not_empty (body_value d.items) (some refl))
+values_take_memory c_string_kind d some = refl
+
 quoted_out_of_memory : (kind : StringKind) (bs : List ℕ) (e : ParseError) → IsUtf8 bs → begins_with (quoted_front kind) bs ≡ true →
     IsQuotedOutOfMemory (switches_of kind) bs (length (quoted_front kind)) e → IsOutOfMemory (kind_parse (string_literal_of kind)) (chars bs) e
 quoted_out_of_memory kind bs e u begins lack = record {
@@ -97,6 +108,7 @@ quoted_out_of_memory kind bs e u begins lack = record {
   literal = of_kind kind (chars bs) (quoted_parts lack.is_cut.parts)
       (subst (λ (front : List ℕ). IsQuoted front (switches_of kind) (chars bs) lack.is_cut.parts) (quoted_before kind bs u begins) lack.is_cut.only.0);
   allocated = escapes_allocate kind (quoted_parts lack.is_cut.parts) (sym lack.is_cut.has_escape ∙ lack.has_escape);
+  takes = values_take_memory kind lack.is_cut.parts (λ nul none. lack.takes nul (lack.is_cut.value_len ∙ ap length none));
   error = lack.error;
 }
 

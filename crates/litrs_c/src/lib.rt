@@ -146,8 +146,8 @@ pub struct StaticText {
 
 /// Parses `text` as a literal of any kind.
 ///
-/// There is one allocation for the value of a C string, and of a quoted string or byte string with
-/// a backslash, if the value is not empty. It is freed before the call returns.
+/// There is one allocation for the value of a C string, and for that of a quoted string or byte
+/// string with a backslash if it is not empty. It is freed before the call returns.
 #[tactic(auto, using(crate::proofs::Memory::lacks_memory))]
 #[unsafe(no_mangle)]
 pub extern "C" fn litrs_parse(alloc: Global, text: &[u8]) -> Answer

@@ -1,10 +1,10 @@
 -- The texts for which a parse may allocate memory. The Rust Reference does not define this.
-use Rattle.std.specs.Prelude.{ℕ, Bool, true, false, ◌==◌, ◌&&◌, ◌||◌, List, codes}
+use Rattle.std.specs.Prelude.{ℕ, Bool, true, false, ◌==◌, ◌&&◌, ◌||◌, not, List, codes}
 use Rattle.std.specs.List.{list_any}
 use Rattle.litrs_base.specs.Characters.{backslash}
-use Rattle.litrs_base.specs.Text.{begins_with}
+use Rattle.litrs_base.specs.Text.{is_empty, begins_with}
 use Rattle.litrs_grammar.specs.Quoted.{body_text}
-use Rattle.litrs_grammar.specs.Literal.{StringParts, quoted_parts, raw_parts, Derivation, a_bool, an_integer, a_float, a_char, a_byte, a_string, a_byte_string, a_c_string}
+use Rattle.litrs_grammar.specs.Literal.{StringParts, quoted_parts, raw_parts, string_value, Derivation, a_bool, an_integer, a_float, a_char, a_byte, a_string, a_byte_string, a_c_string}
 
 -- `true` iff the text contains a backslash.
 abbrev pub has_backslash : List ℕ → Bool
@@ -34,3 +34,9 @@ allocates (a_byte d) = false
 allocates (a_string d) = has_escapes d
 allocates (a_byte_string d) = has_escapes d
 allocates (a_c_string d) = true
+
+-- `true` iff such a value takes memory: it is not empty, or the zero byte of a C string follows it.
+abbrev pub takes_memory : Derivation → Bool
+takes_memory (a_string d) = not (is_empty (string_value d))
+takes_memory (a_byte_string d) = not (is_empty (string_value d))
+takes_memory d = true

@@ -11,7 +11,7 @@ use Rattle.litrs_grammar.specs.LongerTexts.{BeginsBy, EndsBy}
 use Rattle.litrs_grammar.specs.Closing.{closing_of, IsClosedBy}
 use Rattle.litrs_grammar.specs.Literal.{Derivation, Parse, IsLiteralOf}
 use Rattle.litrs_grammar.specs.LiteralRefusals.{IsRefusal}
-use Rattle.litrs_grammar.specs.Allocation.{allocates}
+use Rattle.litrs_grammar.specs.Allocation.{allocates, takes_memory}
 
 -- `t` is refused with the error by a parse with these derivations and this table of refusals:
 -- - `t` has no derivation.
@@ -40,12 +40,13 @@ pub record IsRefusedBy
 abbrev pub IsRefused : Parse → List ℕ → ParseError → Type 0
 IsRefused parse t e = IsRefusedBy (IsLiteralOf parse) (IsRefusal parse) t e
 
--- `t` is a literal of the parse whose value is allocated, and the error is that the allocation
--- failed.
+-- `t` is a literal of the parse whose value is allocated and takes memory, and the error is that the
+-- allocation failed.
 pub record IsOutOfMemory (parse : Parse) (t : List ℕ) (e : ParseError) : Type 0 where
   pub derivation : Derivation
   pub literal : IsLiteralOf parse t derivation
   pub allocated : IsTrue (allocates derivation)
+  pub takes : IsTrue (takes_memory derivation)
   pub error : refusal_of e ≡ without_span OutOfMemory
 
 -- The error of a parse that may allocate.

@@ -1,7 +1,7 @@
 -- The value of a quoted literal, from what is read of its body.
 use Rattle.std.proofs.Common.{◌≡◌, ℕ, ◌+◌, ◌-◌, ◌≤◌, ◌<◌, ◌^◌, ◌==◌, Bool, true, false, not, ◌||◌, List, [], ◌∷◌, ◌++◌, length, drop, take, refl, sym, ap, subst, ◌∙◌, append_assoc, length-append, arith, inl, inr, Some, None, Option}
 use Rattle.std.specs.List.{list_all}
-use Rattle.std.specs.Prelude.{◌⊎◌, Result, Ok, Err, IfOk, IfErr, if◌then◌else◌, option_map}
+use Rattle.std.specs.Prelude.{◌⊎◌, ◌≢◌, Result, Ok, Err, IfOk, IfErr, if◌then◌else◌, option_map}
 use Rattle.std.specs.Str.{chars, IsUtf8, IsCharBoundary}
 use Rattle.std.proofs.Math.Utf8.{scalars}
 use Rattle.std.proofs.lemmas.Bool.{true≢false, and_parts, and_from, ne_eqb, eq-eqb}
@@ -117,12 +117,13 @@ some_of w bytes offset place n h u at b is free other v held =
 
 -- it has one, and its value cannot be allocated
 pub no_memory_of : (w : Switches) (bytes : List ℕ) (offset place n : ℕ) (h : List ℕ → Type 0) (e : ParseError) → IsUtf8 bytes → IsCharBoundary bytes offset →
-    (b : IsReadBody w bytes offset h place) → n ≡ length (body_value b.read.items) → item_refusal w (chars (drop place bytes)) ≡ None → (n ≡ place - offset → ⊥) → IsOutOfMemory e →
+    (b : IsReadBody w bytes offset h place) → n ≡ length (body_value b.read.items) → item_refusal w (chars (drop place bytes)) ≡ None → (n ≡ place - offset → ⊥) → (w.allow_nul ≡ true → n ≢ 0) → IsOutOfMemory e →
     IsQuotedOutOfMemory w bytes offset e
-no_memory_of w bytes offset place n h e u at b is free other error = record {
+no_memory_of w bytes offset place n h e u at b is free other takes error = record {
   cut = record { value_len = n; has_escape = not (n == place - offset); start_suffix = place + 1 };
   is_cut = cut_of w bytes offset place n h u at b is free;
   has_escape = ap not (ne_eqb n (place - offset) other);
+  takes = takes;
   error = error;
 }
 

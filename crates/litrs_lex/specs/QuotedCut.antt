@@ -79,10 +79,11 @@ abbrev pub IsOutOfMemory : ParseError → Type 0
 IsOutOfMemory e = refusal_of e ≡ without_span OutOfMemory
 
 -- The text is a quoted literal whose body has a backslash, and the error is that the allocation of
--- its value failed.
+-- its value failed. If NUL is allowed, and no closing zero is needed, the value is not empty.
 pub record IsQuotedOutOfMemory (w : Switches) (bytes : List ℕ) (offset : ℕ) (e : ParseError)
     : Type 0 where
   pub cut : QuotedCut
   pub is_cut : IsQuotedCut w bytes offset cut
   pub has_escape : IsTrue cut.has_escape
+  pub takes : IsTrue w.allow_nul → cut.value_len ≢ 0
   pub error : IsOutOfMemory e

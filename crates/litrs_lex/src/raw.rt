@@ -1,5 +1,5 @@
 //! Raw strings of the three kinds.
-ghost use Rattle.std.specs.Prelude.{◌≡◌, ◌≤◌, Bool, length, drop, IsTrue, IsFalse, IfOk, IfErr, Some, chars, IsUtf8, IsCharBoundary};
+ghost use Rattle.std.specs.Prelude.{◌≡◌, ◌≤◌, ℕ, Bool, length, drop, IsTrue, IsFalse, IsErr, IfOk, IfErr, Some, chars, IsUtf8, IsCharBoundary};
 ghost use Rattle.litrs_base.specs.Finality.{is_open};
 ghost use Rattle.litrs_base.specs.Refusal.{refusal};
 ghost use Rattle.litrs_base.specs.Text.{first_passes, begins_with};
@@ -90,6 +90,7 @@ pub fn open_raw(
         raw_refusal unicode allow_nul offset (chars (drop offset input.now))
         ≡ Some (refusal r.0 r.1)) }
     ensures shut { IfErr result (λ r. IsFalse (is_open r.1)) }
+    ensures none { IsErr result → (opening : ℕ × ℕ) → IsRawOpening offset input.now opening → ⊥ }
 {
     let bytes = input.as_bytes();
     let hashes = hash_len(&bytes[offset..]);

@@ -1,5 +1,5 @@
 //! The values of quoted strings, byte strings and C strings.
-ghost use Rattle.std.specs.Prelude.{◌≡◌, ◌≤◌, ◌<◌, ◌+◌, ◌==◌, [], ◌⊎◌, ◌||◌, not, if◌then◌else◌, length, take, drop, option_map, IfOk, IfErr, IsTrue, IsFalse, chars, IsUtf8, IsCharBoundary};
+ghost use Rattle.std.specs.Prelude.{◌≡◌, ◌≤◌, ◌<◌, ◌+◌, ◌==◌, [], ◌⊎◌, ◌||◌, not, if◌then◌else◌, length, take, drop, option_map, IsOk, IfOk, IfErr, IsTrue, IsFalse, chars, IsUtf8, IsCharBoundary};
 ghost use Rattle.litrs_base.specs.Characters.{backslash};
 ghost use Rattle.litrs_base.specs.Text.{first_passes};
 ghost use Rattle.litrs_grammar.specs.Quoted.{QuotedParts, IsQuoted, body_value};
@@ -35,8 +35,8 @@ const LONGEST: usize = 4 * LONG;
 /// `"a\nb"u8` and 1 the value is `a`, LF and `b`, and the place is 6. See [the reference][ref].
 ///
 /// `offset` and the switches are those of [`cut_quoted`]. `byte_escapes` is set only if the
-/// container can hold all bytes. There is one allocation, of the length of the value. If NUL is not
-/// allowed, it has one byte more, for the closing zero of a C string.
+/// container can hold all bytes. There is one allocation, of the length of the value, and none if
+/// it is 0. If NUL is not allowed, it has one byte more, for the closing zero of a C string.
 ///
 /// # Errors
 ///
@@ -62,8 +62,7 @@ pub fn unescape_string<C: EscapeContainer>(
         IsQuotedRefused (switches unicode byte_escapes allow_nul) input.now offset e
         ⊎ IsQuotedOutOfMemory (switches unicode byte_escapes allow_nul) input.now offset e) }
 {
-    let allowed = switches(unicode, byte_escapes, allow_nul);
-    unescape_string_with(alloc, input, offset, allowed)
+    unescape_string_with(alloc, input, offset, switches(unicode, byte_escapes, allow_nul))
 }
 
 /// Like [`unescape_string`], with the switches in one value.
@@ -275,6 +274,7 @@ fn container_for<C: EscapeContainer, A: Allows>(
     ensures room { IfOk result (λ made.
         C.capacity made ≡ (if (A.allowed allowed).allow_nul then len else (len + 1))) }
     ensures error { IfErr result IsOutOfMemory }
+    ensures succeeds { IsTrue (A.allowed allowed).allow_nul → len ≡ 0 → IsOk result }
 {
     let zero = !allowed.switches().allow_nul;
     // bounded by the length of the value, or one more for a closing zero.

@@ -38,7 +38,7 @@ refused_text type text (Kind a b) r = absurd r
 refused_text type text (Sign a) r = absurd r
 refused_text type text (Suffix a n) r = absurd r
 refused_text type text (OutOfRange a) r = absurd r
-refused_text type text Memory (d, read, allocated) = (d, read, inl allocated)
+refused_text type text Memory (d, read, allocated, takes) = (d, read, inl (allocated, takes))
 
 pub map_err : {X E : Type 0} (r : Result X E) (P Q : E → Type 0) → IfErr r P → ((e : E) → P e → Q e) → IfErr r Q
 map_err (Ok x) P Q all step = tt

@@ -168,7 +168,7 @@ module _ (type : ValueType) (text : List ℕ) (m : MalformedPrefix) (utf8 : IsUt
     | inr is ↦ (
         let d : Derivation = is.refused.derivation in
         let pair = malformed_cut is.front is.rest m.len len is.spells (is.len ∙ sym moved.len) place in
-        let error : IsValueError type (take len text) Memory = (d, subst (λ (t : List ℕ). IsLiteral t d) (sym pair.1) is.refused.literal, inl is.refused.allocated) in
+        let error : IsValueError type (take len text) Memory = (d, subst (λ (t : List ℕ). IsLiteral t d) (sym pair.1) is.refused.literal, inl (is.refused.allocated, is.refused.takes)) in
         let found = subst (λ (l : List ℕ). HasPrefix (chars (unsigned text)) d l) (sym pair.2) is.prefix in
         ((error, (d, found)), marked_in type text m.len (record { error = Memory; len = len }) pair.0 error))
   ]

@@ -10,3 +10,5 @@ mod Suffixes
 mod Errors
 mod Marks
 mod Fronts
+-- examples
+mod Examples

@@ -2,7 +2,7 @@
 use Rattle.std.specs.Prelude.{◌≡◌, ◌⊎◌, ℕ, ◌-◌, IsTrue, Bool, true, false, ◌==◌, List, [], drop, codes, if◌then◌else◌, slice_index}
 use Rattle.std.specs.Str.{chars}
 use Rattle.std.specs.declared.ops.Range.{Range}
-use Rattle.litrs.specs.Allocation.{allocates}
+use Rattle.litrs.specs.Allocation.{allocates, takes_memory}
 use Rattle.litrs.specs.Characters.{minus}
 use Rattle.litrs.specs.Literal.{Derivation, IsLiteral, literal_parse}
 use Rattle.litrs.specs.Refusal.{refusal_of, char_span_of, shifted, shifted_span, marked_span}
@@ -36,12 +36,13 @@ abbrev pub IsReadAs : List ℕ → Derivation → Type 0
 IsReadAs text d = IsLiteral (chars (unsigned text)) d
 
 -- The text after a sign is not a literal, and both spans of the error count from the sign. Or it is
--- one, and an allocation failed for its value.
+-- one whose value is allocated and takes memory.
 abbrev pub IsRefusedAfter : (negative : Bool) → List ℕ → ValueError → Type 0
 IsRefusedAfter negative t (Malformed e) = (r : ParseError) × IsRefused literal_parse t r
     × (refusal_of e ≡ shifted (if negative then 1 else 0) (refusal_of r))
     × (char_span_of e ≡ shifted_span (if negative then 1 else 0) (char_span_of r))
-IsRefusedAfter negative t Memory = (d : Derivation) × IsLiteral t d × IsTrue (allocates d)
+IsRefusedAfter negative t Memory =
+    (d : Derivation) × IsLiteral t d × IsTrue (allocates d) × IsTrue (takes_memory d)
 IsRefusedAfter negative t e = ⊥
 
 -- The error of a text without a value of the type. The text after the sign is not a literal, and
@@ -51,7 +52,8 @@ abbrev pub IsValueError : ValueType → List ℕ → ValueError → Type 0
 IsValueError type text (Malformed e) =
     IsRefusedAfter (is_negative text) (chars (unsigned text)) (Malformed e)
 IsValueError type text Memory = (d : Derivation) × IsReadAs text d
-    × (IsTrue (allocates d) ⊎ Refuses type (is_negative text) d Memory)
+    × ((IsTrue (allocates d) × IsTrue (takes_memory d))
+    ⊎ Refuses type (is_negative text) d Memory)
 IsValueError type text e = (d : Derivation) × IsReadAs text d × Refuses type (is_negative text) d e
 
 -- the part of the text that an error marks

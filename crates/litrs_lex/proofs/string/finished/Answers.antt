@@ -1,5 +1,6 @@
 -- All fitted into the room.
 use Rattle.std.proofs.Common.{◌∙◌, ap, length, inr}
+use Rattle.std.proofs.lemmas.Bool.{false≢true}
 use Rattle.std.proofs.lemmas.Result.{err_from_is_err_and}
 use Rattle.litrs_lex.proofs.QuotedCuts.{from_offset}
 use Rattle.litrs_lex.proofs.QuotedValues.{held_is_utf8, whole_held, none_of, some_of, no_memory_of}
@@ -27,4 +28,5 @@ returns g c =
 pub returns-in_err-made : goal.returns-in_err-made
 returns-in_err-made g c =
     let p = err_from_is_err_and c.from_residual-in_err-made.result c.from_residual-in_err-made.ensures.1 in
-    rw (p.1, p.2) (inr (no_memory_of _ c.args.input.now _ _ _ _ _ c.utf8.input c.requires.at c.requires.read (ap length c.requires.read.read.held) c.in_ok-check_after_quote.ensures.ok c.if-value-place.false c.in_err-made.ensures.error))
+    rw (p.1, p.2) (inr (no_memory_of _ c.args.input.now _ _ _ _ _ c.utf8.input c.requires.at c.requires.read (ap length c.requires.read.read.held) c.in_ok-check_after_quote.ensures.ok c.if-value-place.false
+        (λ nul none. false≢true (c.in_err-made.ensures.succeeds nul none)) c.in_err-made.ensures.error))
