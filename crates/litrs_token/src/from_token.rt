@@ -1,10 +1,10 @@
 //! Conversions of tokens to literals.
-ghost use Rattle.std.specs.Prelude.{◌≡◌, ℕ, List, Ok, IsOk, IsTrue, IfOk, IfErr, IsErrOf, OnOk, string_bytes};
+ghost use Rattle.std.specs.Prelude.{◌≡◌, ℕ, List, Ok, IsOk, IsErr, IsTrue, IfOk, IfErr, IsErrOf, OnOk, string_bytes};
 ghost use Rattle.std.specs.Result.{IsErrAnd};
 ghost use Rattle.std.specs.Str.{chars};
 ghost use Rattle.litrs_base.specs.Refusal.{kind_of};
 ghost use Rattle.litrs.specs.LiteralDerivation.{literal_raw};
-ghost use Rattle.litrs_token.specs.Conversion.{IsWantedKind, IsWanted};
+ghost use Rattle.litrs_token.specs.Conversion.{IsWantedKind, IsWanted, MayLackMemory};
 ghost use Rattle.litrs_token.specs.BoolTree.{is_bool_ident, text_of};
 ghost use Rattle.litrs_token.specs.LiteralToken.{IsLiteralToken, SomeLiteral};
 ghost use Rattle.litrs_token.specs.Mismatch.{literal_mismatch, tree_mismatch};
@@ -31,7 +31,8 @@ use std::alloc::{AllocError, Global};
 /// identifier `true` or `false`. All keep the text of the token.
 ///
 /// The kind of the token is checked before anything is allocated. The text of a token is always
-/// a valid literal.
+/// a valid literal. The calls that take a token or a tree move its text, so they allocate only the
+/// value of the literal.
 pub trait FromToken: Drop {
     /// The expected kind.
     ghost wanted: { TokenKind };
@@ -63,6 +64,8 @@ pub trait FromToken: Drop {
         ensures wanted { OnOk result (IsWantedKind wanted literal.kind) }
         ensures memory { IsWantedKind wanted literal.kind
             → IfErr result (λ e. as_token_error e ≡ TokenError.Memory) }
+        ensures lack { IsWantedKind wanted literal.kind → IsErr result
+            → MayLackMemory (chars literal.text) }
         ensures invalid { ¬ IsWantedKind wanted literal.kind
             → IsErrAnd result (λ e. as_token_error e
             ≡ TokenError.Invalid (literal_mismatch wanted literal)) };
@@ -107,6 +110,8 @@ pub trait FromToken: Drop {
             → IsOk result }
         ensures memory { IsWanted wanted (shape_of tree)
             → IfErr result (λ e. e ≡ TokenError.Memory) }
+        ensures lack { IsWanted wanted (shape_of tree) → IsErr result
+            → MayLackMemory (chars (text_of (shape_of tree))) }
         ensures invalid { ¬ IsWanted wanted (shape_of tree)
             → IsErrOf result (TokenError.Invalid (tree_mismatch wanted tree)) };
 
@@ -213,6 +218,7 @@ fn literal_of<T: OwnedKind>(alloc: Global, text: String) -> Result<T, TokenError
     requires { IsLiteralToken (chars (string_bytes text)) T.kind }
     ensures raw { IfOk result (λ lit. T.raw lit ≡ string_bytes text) }
     ensures memory { IfErr result (λ e. e ≡ TokenError.Memory) }
+    ensures lack { IsErr result → MayLackMemory (chars (string_bytes text)) }
 {
     Ok(or_alloc_error(T::parse(alloc, text))?)
 }
@@ -224,7 +230,8 @@ fn literal_of<T: OwnedKind>(alloc: Global, text: String) -> Result<T, TokenError
 /// Returns `AllocError` if the allocation of the value fails. `text` is then dropped.
 fn any_literal(alloc: Global, text: String) -> Result<litrs::Literal<String>, AllocError>
     requires { SomeLiteral (chars (string_bytes text)) }
-    ensures { IfOk result (λ lit. literal_raw lit ≡ string_bytes text) }
+    ensures raw { IfOk result (λ lit. literal_raw lit ≡ string_bytes text) }
+    ensures lack { IsErr result → MayLackMemory (chars (string_bytes text)) }
 {
     or_alloc_error(litrs::Literal::parse(alloc, text))
 }
@@ -232,7 +239,8 @@ fn any_literal(alloc: Global, text: String) -> Result<litrs::Literal<String>, Al
 /// Returns the result of a parse that can fail only to allocate, with `AllocError` as the error.
 fn or_alloc_error<T: Drop>(parsed: Result<T, ParseError>) -> Result<T, AllocError>
     requires { IfErr parsed (λ e. kind_of e ≡ ParseErrorKind.OutOfMemory) }
-    ensures { IfOk result (λ lit. parsed ≡ Ok lit) }
+    ensures ok { IfOk result (λ lit. parsed ≡ Ok lit) }
+    ensures err { IsErr result → IsErr parsed }
 {
     match parsed {
         Ok(lit) => Ok(lit),

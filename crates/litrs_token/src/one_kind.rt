@@ -1,7 +1,8 @@
 //! The calls that the seven kinds of literals that are tokens have in common.
-ghost use Rattle.std.specs.Prelude.{◌≡◌, ◌≢◌, ℕ, List, IfOk, IfErr, string_bytes};
+ghost use Rattle.std.specs.Prelude.{◌≡◌, ◌≢◌, ℕ, List, IfOk, IfErr, IsErr, string_bytes};
 ghost use Rattle.std.specs.Str.{chars};
 ghost use Rattle.litrs_base.specs.Refusal.{kind_of};
+ghost use Rattle.litrs_token.specs.Conversion.{MayLackMemory};
 ghost use Rattle.litrs_token.specs.LiteralToken.{IsLiteralToken};
 ghost use Rattle.litrs_token.specs.declared.kind.TokenKind.{TokenKind};
 
@@ -41,7 +42,8 @@ pub trait OwnedKind: OneKind {
     fn parse(alloc: Global, text: String) -> Result<Self, ParseError>
         requires { IsLiteralToken (chars (string_bytes text)) Self.kind }
         ensures raw { IfOk result (λ lit. Self.raw lit ≡ string_bytes text) }
-        ensures memory { IfErr result (λ e. kind_of e ≡ ParseErrorKind.OutOfMemory) };
+        ensures memory { IfErr result (λ e. kind_of e ≡ ParseErrorKind.OutOfMemory) }
+        ensures lack { IsErr result → MayLackMemory (chars (string_bytes text)) };
 }
 
 impl<B: Text> OneKind for IntegerLit<B> {

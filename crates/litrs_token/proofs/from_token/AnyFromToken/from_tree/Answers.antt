@@ -6,6 +6,10 @@ pub returns-in_err-literal-clause-memory : goal.returns-in_err-literal-clause-me
 returns-in_err-literal-clause-memory g c = λ wanted.
     absurd (no_literal_wanted _ _ c.kind.ensures.one c.in_err-literal.ensures.none wanted)
 
+pub returns-in_err-literal-clause-lack : goal.returns-in_err-literal-clause-lack
+returns-in_err-literal-clause-lack g c = λ wanted failed.
+    absurd (no_literal_wanted _ _ c.kind.ensures.one c.in_err-literal.ensures.none wanted)
+
 pub returns-clause-invalid : goal.returns-clause-invalid
 returns-clause-invalid g c = λ unwanted.
     let is = c.in_ok-literal.ensures.ok in
