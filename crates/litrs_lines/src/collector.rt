@@ -3,7 +3,7 @@
 //! A literal may contain line breaks, for example a string that spans lines. A [`Collector`] is fed
 //! one line after the other. After each it reports whether its lines are a literal, begin one, or
 //! neither.
-ghost use Rattle.std.specs.Prelude.{◌≡◌, ◌≢◌, ◌↔◌, ◌∷◌, ◌++◌, [], None, Some, IsNone, IsTrue, IfOk, OnOk, OnErr, IfSome, IfNone, MatchResult, string_bytes};
+ghost use Rattle.std.specs.Prelude.{◌≡◌, ◌≢◌, ◌↔◌, ◌∷◌, ◌++◌, [], None, Some, IsNone, IsTrue, IsErr, IfOk, OnOk, OnErr, IfSome, IfNone, MatchResult, string_bytes};
 ghost use Rattle.std.specs.Str.{chars, IsUtf8};
 ghost use Rattle.litrs_base.specs.Characters.{line_feed};
 ghost use Rattle.litrs_grammar.specs.Literal.{literal_parse};
@@ -12,7 +12,7 @@ ghost use Rattle.litrs_prefix.specs.Ends.{IsEndOf};
 ghost use Rattle.litrs_lines.specs.Held.{IsHeld, IsRefusalOfHeld};
 ghost use Rattle.litrs_lines.specs.Open.{IsAfter, IsReadToLastLine};
 ghost use Rattle.litrs_lines.specs.PrefixSteps.{EndsInLine, IsAfterLiteral, IsFront, IsHeldBefore, IsPrefixStep, held_after_prefix};
-ghost use Rattle.litrs_lines.specs.Steps.{BeginsByLine, IsLiteralStep, IsReadAs, IsStep, held_after, Feeds, Pushes};
+ghost use Rattle.litrs_lines.specs.Steps.{BeginsByLine, IsCopied, IsLiteralStep, IsReadAs, IsStep, held_after, Feeds, Pushes};
 
 use crate::collector::body::{Open, open_after};
 use litrs::{Literal, ParseError, ParseErrorKind};
@@ -117,12 +117,14 @@ impl Collector {
     ///
     /// # Errors
     ///
-    /// Returns `AllocError` if an allocation fails. Then the lines held are unchanged.
+    /// Returns `AllocError` if an allocation fails. Then the lines held are unchanged. A first line
+    /// that neither is a literal nor begins one is not copied.
     pub fn feed(&mut self, line: &str) -> Result<Step, AllocError>
         ensures step { IfOk result (IsStep (self.old ++ line.now)) }
         ensures utf8 { OnOk result (IsUtf8 (self.old ++ line.now)) }
         ensures held { IfOk result (λ step. self.new ≡ held_after (self.old ++ line.now) step) }
         ensures err { OnErr result (self.new ≡ self.old) }
+        ensures copied { self.old ≡ [] → IsErr result → IsCopied line.now }
     {
         if self.is_empty() {
             self.feed_first(line)
@@ -144,6 +146,7 @@ impl Collector {
             self.new ≡ held_after (self.old ++ line.now) step)) }
         ensures ignored { IfOk result (λ fed. IfNone fed (self.new ≡ self.old)) }
         ensures err { OnErr result (self.new ≡ self.old) }
+        ensures copied { self.old ≡ [] → IsErr result → IsCopied line.now }
     {
         if self.is_empty() && line.is_empty() {
             return Ok(None);
@@ -187,6 +190,7 @@ impl Collector {
         requires { self.old ≡ [] }
         ensures fed { IfOk result (Feeds (self.old ++ line.now) self.new) }
         ensures err { OnErr result (self.new ≡ self.old) }
+        ensures copied { IsErr result → IsCopied line.now }
     {
         let alloc = *self.held.allocator();
         match Literal::parse(alloc, line) {
@@ -224,12 +228,14 @@ impl Collector {
     ///
     /// # Errors
     ///
-    /// Returns `AllocError` if an allocation fails. Then the lines held are unchanged.
+    /// Returns `AllocError` if an allocation fails. Then the lines held are unchanged. A first line
+    /// is copied only if it begins a literal.
     #[inline(always)]
     pub fn push(&mut self, line: &str) -> Result<bool, AllocError>
         ensures pushed { IfOk result (Pushes self.old line.now self.new) }
         ensures err { OnErr result (self.new ≡ self.old) }
         ensures utf8 { IsUtf8 (self.old ++ line.now) }
+        ensures copied { self.old ≡ [] → IsErr result → BeginsByLine line.now }
     {
         if self.is_empty() {
             self.push_first(line)
@@ -248,6 +254,7 @@ impl Collector {
         requires refused { IsRefused literal_parse (chars line.now) refusal.now }
         ensures pushed { IfOk result (Pushes self.old line.now self.new) }
         ensures err { OnErr result (self.new ≡ self.old) }
+        ensures copied { IsErr result → BeginsByLine line.now }
     {
         if refusal.is_final() {
             return Ok(false);
@@ -260,6 +267,7 @@ impl Collector {
         requires { self.old ≡ [] }
         ensures pushed { IfOk result (Pushes self.old line.now self.new) }
         ensures err { OnErr result (self.new ≡ self.old) }
+        ensures copied { IsErr result → BeginsByLine line.now }
     {
         match open_after(line, None) {
             Some(string) => hold_line(&mut self.held, &mut self.known, line, string),

@@ -1,4 +1,8 @@
+use Rattle.std.proofs.Common.{sym, ◌∙◌, inl}
 use Rattle.std.proofs.lemmas.Result.{IfOk-weaker}
+use Rattle.std.specs.Str.{chars}
+use Rattle.litrs_grammar.specs.Literal.{literal_parse}
+use Rattle.litrs.proofs.OutOfMemory.{of_memory}
 use Rattle.litrs_lines.proofs.StepLemmas.{feeds_literal}
 use Rattle.litrs_lines.proofs.collector.Collector.feed_first.Goals as goal
 
@@ -7,3 +11,8 @@ returns-in-Ok-clause-fed c =
     IfOk-weaker c.literal_step.result _ _
     (λ step is. feeds_literal c.args.self.now c.args.line.now c.in-Ok.lit step c.requires c.utf8.line c.in-Ok.ensures.raw c.in-Ok.ensures.ok is)
     c.literal_step.ensures
+
+pub returns-in-OutOfMemory-clause-copied : goal.returns-in-OutOfMemory-clause-copied
+returns-in-OutOfMemory-clause-copied c = λ failed.
+    let lack = of_memory literal_parse (chars c.args.line.now) c.in-Err.e (sym c.kind.ensures ∙ c.in-OutOfMemory.is) c.in-Err.ensures.refused in
+    inl (lack.derivation, lack.literal)
