@@ -16,7 +16,7 @@ abbrev pub is_combining : ℕ → Bool
 is_combining c = is_grapheme_extend c
 
 -- `true` iff the character is written as it is: it is printable, and is not a combining mark after
--- a quote or an escape.
+-- the opening quote or an escape.
 abbrev pub is_shown : (follows_mark : Bool) → ℕ → Bool
 is_shown follows_mark c = is_printable c && not (follows_mark && is_combining c)
 

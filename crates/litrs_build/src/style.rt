@@ -29,7 +29,7 @@ pub enum Escapes {
     Respelled,
     /// A character is escaped as [`char`](crate::char), [`byte`](crate::byte) or
     /// [`string`](crate::string) escapes it. An LF that `lines` keeps is not escaped, but a blank
-    /// after a kept continuation is.
+    /// or a combining character after a kept continuation is.
     Needed,
 }
 

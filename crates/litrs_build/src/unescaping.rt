@@ -1,12 +1,12 @@
 //! Literals that are written anew.
-ghost use Rattle.std.specs.Prelude.{◌≡◌, IfOk, IfErr};
+ghost use Rattle.std.specs.Prelude.{◌≡◌, IsOk, IsTrue, IfOk, IfErr};
 ghost use Rattle.std.specs.Str.{chars};
 ghost use Rattle.litrs_base.specs.declared.quotes.StringKind.TheVariants.{String as string_kind, ByteString as byte_string_kind, CString as c_string_kind};
 ghost use Rattle.litrs_grammar.specs.CharByte.{char_value};
 ghost use Rattle.litrs_grammar.specs.Literal.{IsLiteral, string_value, suffix_of};
 ghost use Rattle.litrs_grammar.specs.LiteralText.{literal_text};
 ghost use Rattle.litrs.specs.CharLiteral.{char_parts, byte_parts};
-ghost use Rattle.litrs.specs.LiteralDerivation.{derivation, literal_raw};
+ghost use Rattle.litrs.specs.LiteralDerivation.{derivation, is_bool_literal, literal_raw};
 ghost use Rattle.litrs_build.specs.WrittenAnew.{HaveSameValue, unescaped, unescaped_byte, unescaped_char, unescaped_string};
 
 use crate::byte_strings::byte_string;
@@ -27,7 +27,7 @@ use std::alloc::{AllocError, Global};
 /// and a float keep their text.
 ///
 /// The text may be longer than that of `lit`. An unescaped character that is not printable is
-/// escaped, and so is a combining one (Grapheme_Extend) after a quote or an escape.
+/// escaped, and so is a combining one (Grapheme_Extend) after the opening quote or an escape.
 ///
 /// There is one allocation for the text, and one for the value if [`Literal::parse`] makes one; for
 /// a bool there is none.
@@ -46,6 +46,7 @@ pub fn unescaped<B: Text>(alloc: Global, lit: &Literal<B>) -> Result<Literal<Str
     ensures suffix { IfOk result (λ built.
         suffix_of (derivation built) ≡ suffix_of (derivation lit.now)) }
     ensures again { IfOk result (λ built. unescaped (derivation built) ≡ derivation built) }
+    ensures bool { IsTrue (is_bool_literal lit.now) → IsOk result }
 {
     match built(alloc, lit) {
         Ok(built) => Ok(with_text(built)),
@@ -71,6 +72,7 @@ fn built<B: Text>(alloc: Global, lit: &Literal<B>) -> Result<Literal<String>, Bu
     ensures value { IfOk result (λ built.
         HaveSameValue (derivation lit.now) (derivation built)) }
     ensures errors { IfErr result (λ e. e ≡ BuildError.Memory) }
+    ensures bool { IsTrue (is_bool_literal lit.now) → IsOk result }
 {
     match lit {
         Literal::Bool(lit) => Ok(Literal::Bool(*lit)),

@@ -119,9 +119,10 @@ first_start bs u = record {
   starts = ap last_line chars-nil;
 }
 
-pub next_start : (bs : List ℕ) (number start len : ℕ) → IsUtf8 bs → IsLineStart bs number start →
-    IsLineLen (drop start bs) len → IsLineStart bs (number + 1) (start + len)
-next_start bs number start len u at line =
+pub next_start : (bs rest : List ℕ) (number start len : ℕ) → IsUtf8 bs → IsLineStart bs number start →
+    rest ≡ drop start bs → IsLineLen rest len → IsLineStart bs (number + 1) (start + len)
+next_start bs rest number start len u at is first =
+    let line : IsLineLen (drop start bs) len = subst (λ (l : List ℕ). IsLineLen l len) is first in
     let front : IsUtf8 (take start bs) = IsUtf8-take bs start u at.boundary in
     let parts : chars (take (start + len) bs)
     ≡ chars (take start bs) ++ (line.line ++ 10 ∷ []) =
@@ -169,17 +170,23 @@ no_later starts last start order all k within = elim (cases_lt k (length starts)
       omega (arith, same)
 ]
 
--- no line starts later
-pub each_start : (bs : List ℕ) (number start : ℕ) → IsUtf8 bs → IsLineStart bs number start →
-    count_by is_line_feed (chars (drop start bs)) ≡ 0 → number ≡ count_by is_line_feed (chars bs)
-each_start bs number start u at none =
+-- the LFs before a line, and those from there on
+pub all_line_feeds : (bs : List ℕ) (number start : ℕ) → IsUtf8 bs → IsLineStart bs number start →
+    number + count_by is_line_feed (chars (drop start bs)) ≡ count_by is_line_feed (chars bs)
+all_line_feeds bs number start u at =
     let front : IsUtf8 (take start bs) = IsUtf8-take bs start u at.boundary in
     let parts : chars bs ≡ chars (take start bs) ++ chars (drop start bs) =
     ap chars (sym (take-append-drop start bs)) ∙ chars-append (take start bs) (drop start bs) front in
     let sum = counted (chars (take start bs)) (chars (drop start bs)) in
     let same = ap (count_by is_line_feed) parts in
     let before = at.line_feeds in
-    omega (arith, sum, same, before, none)
+    omega (arith, sum, same, before)
+
+-- no line starts later
+pub each_start : (bs : List ℕ) (number start : ℕ) → IsUtf8 bs → IsLineStart bs number start →
+    count_by is_line_feed (chars (drop start bs)) ≡ 0 → number ≡ count_by is_line_feed (chars bs)
+each_start bs number start u at none =
+    let all = all_line_feeds bs number start u at in omega (arith, all, none)
 
 -- ---- a place in a line
 

@@ -6,8 +6,9 @@ use std::ops::Range;
 
 /// A label on a further range of the text of a [`Diagnostic`](crate::Diagnostic).
 ///
-/// The line on which the range begins is shown, unless it is the line above, and the range is
-/// marked by `-`. If the range continues in the next line, the rest of its first line is marked.
+/// The line on which the range begins is shown, unless it is the line above and all of that is
+/// shown, and the range is marked by `-`. If the range continues in the next line, the rest of its
+/// first line is marked.
 #[derive(Clone, Copy, Debug)]
 pub struct Label<'a> {
     /// The text, which is that of the diagnostic.

@@ -27,7 +27,7 @@
 //!   |    ^^^^
 //! ```
 //!
-//! Only LFs and printable characters are written. In the source, the name and the message a tab is
+//! Only LFs and printable characters are written, and in color also codes. In the source, the name and the message a tab is
 //! shown as four spaces, and every other character that is not printable by its number, for example
 //! `\u{202e}`. If a line has more columns than the width, the part around the range is shown, and
 //! `...` in place of the rest. The source is read up to the end of the last line that is shown.
@@ -92,6 +92,8 @@ pub fn shown_in_color(alloc: Global, diagnostic: &Diagnostic) -> Result<String, 
         chars (string_bytes written) ≡ colored_text (message_of diagnostic.now)) }
     ensures without_codes { IfOk result (λ written. without_codes (chars (string_bytes written))
         ≡ diagnostic_text (message_of diagnostic.now)) }
+    ensures printable { IfOk result (λ written. IsTrue (
+        list_all is_line_feed_or_printable (without_codes (chars (string_bytes written))))) }
 {
     let colored = Colored(*diagnostic);
     format!(in alloc; "{colored}")

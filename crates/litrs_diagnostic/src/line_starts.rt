@@ -1,5 +1,5 @@
 //! An index of the lines of a text.
-ghost use Rattle.std.specs.Prelude.{◌≡◌, take, count_by, IfOk, IfSome, IfNone};
+ghost use Rattle.std.specs.Prelude.{◌≡◌, take, count_by, IsOk, IfOk, IfSome, IfNone};
 ghost use Rattle.std.specs.Str.{chars, IsCharBoundary};
 ghost use Rattle.litrs_diagnostic.specs.Position.{is_line_feed, line_number, column_number};
 ghost use Rattle.litrs_diagnostic.specs.Lines.{IsLineLen};
@@ -38,13 +38,15 @@ impl<'a> Model for Lines<'a> {
 }
 
 impl<'a> Lines<'a> {
-    /// Returns the index of the lines of `source`. Its starts are allocated again while they grow.
+    /// Returns the index of the lines of `source`. Its starts are allocated again while they grow,
+    /// and not if there is only one line.
     ///
     /// # Errors
     ///
     /// Returns `AllocError` if an allocation fails.
     pub fn new(alloc: Global, source: &'a str) -> Result<Lines<'a>, AllocError>
-        ensures { IfOk result (λ lines. lines ≡ source.now) }
+        ensures ok { IfOk result (λ lines. lines ≡ source.now) }
+        ensures succeeds { count_by is_line_feed (chars source.now) ≡ 0 → IsOk result }
     {
         let mut starts = Vec::new(alloc);
         let mut start = 0;

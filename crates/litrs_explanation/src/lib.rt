@@ -34,12 +34,13 @@
 //! `\u{..}`. So every character of an explanation is an LF or printable.
 #![tactic(auto)]
 
-ghost use Rattle.std.specs.Prelude.{◌≡◌, ◌++◌, [], length, take, IfOk, OnOk, MatchOption, IsTrue, IsFalse, codes, string_bytes, encode_utf8_all};
+ghost use Rattle.std.specs.Prelude.{◌≡◌, ◌++◌, [], length, take, false, IsOk, IfOk, OnOk, MatchOption, IsTrue, IsFalse, codes, string_bytes, encode_utf8_all};
 ghost use Rattle.std.specs.Float.{float_is_finite};
 ghost use Rattle.std.specs.List.{list_all, list_any, flat_map};
 ghost use Rattle.std.specs.Str.{chars};
 ghost use Rattle.litrs.specs.LiteralDerivation.{derivation};
 ghost use Rattle.litrs_grammar.specs.CharByte.{char_text};
+ghost use Rattle.litrs_grammar.specs.Float.{number_part, is_underscore};
 ghost use Rattle.litrs_grammar.specs.Integer.{integer_value};
 ghost use Rattle.litrs_grammar.specs.Raw.{is_nul};
 ghost use Rattle.litrs.specs.IntegerLiteral.{integer_parts};
@@ -381,8 +382,8 @@ fn push_float<B: Buffer>(out: &mut String, lit: &FloatLit<B>) -> Result<(), Allo
     push_part(out, "exponent", lit.exponent_part())
 }
 
-/// Returns the value of `lit` in decimal, as a value of its [`float_type`], or
-/// `infinity, out of range for f64` if it is too large for that type.
+/// Returns the value of `lit` in decimal, as a value of its [`float_type`], or, if it is too large
+/// for that type, for example `infinity, out of range for f64`.
 ///
 /// # Errors
 ///
@@ -425,8 +426,11 @@ pub fn float_number<B: Buffer>(
     lit: &FloatLit<B>,
     ty: FloatType,
 ) -> Result<Option<String>, AllocError>
-    ensures { IfOk result (λ number. MatchOption number (IsOutOfRange ty (float_parts lit.now))
+    ensures number { IfOk result (λ number.
+        MatchOption number (IsOutOfRange ty (float_parts lit.now))
         (λ text. IsNumberOf ty (float_parts lit.now) (string_bytes text))) }
+    ensures succeeds { IsOutOfRange ty (float_parts lit.now)
+        → list_any is_underscore (number_part (float_parts lit.now)) ≡ false → IsOk result }
 {
     match ty {
         FloatType::F32 => {
@@ -443,8 +447,9 @@ pub fn float_number<B: Buffer>(
 /// Returns `value` in decimal, or `None` if it is not finite.
 fn number<F: Float>(alloc: Global, value: F, is_finite: bool) -> Result<Option<String>, AllocError>
     requires { is_finite ≡ float_is_finite (F.value value) }
-    ensures { IfOk result (λ number. MatchOption number (IsFalse (float_is_finite (F.value value)))
+    ensures number { IfOk result (λ number. MatchOption number (IsFalse (float_is_finite (F.value value)))
         (λ text. IsNumber F.format (F.value value) (string_bytes text))) }
+    ensures succeeds { IsFalse (float_is_finite (F.value value)) → IsOk result }
 {
     if !is_finite {
         return Ok(None);

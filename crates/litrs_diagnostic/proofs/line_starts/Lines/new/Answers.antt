@@ -4,8 +4,8 @@ use Rattle.std.specs.Str.{chars}
 use Rattle.litrs_diagnostic.specs.Position.{is_line_feed}
 use Rattle.std.proofs.lemmas.List.{get_or_default}
 use Rattle.std.proofs.lemmas.List.Sorted.{IsNonDecreasingBy-short, IsNonDecreasingBy-push}
-use Rattle.litrs_diagnostic.specs.Lines.{IsLineStart, IsLineLen}
-use Rattle.litrs_diagnostic.proofs.LineStarts.{each_start, first_start, next_start, more_starts, no_later}
+use Rattle.litrs_diagnostic.specs.Lines.{IsLineStart}
+use Rattle.litrs_diagnostic.proofs.LineStarts.{all_line_feeds, each_start, first_start, next_start, more_starts, no_later}
 use Rattle.litrs_diagnostic.proofs.line_starts.Lines.new.Goals as goal
 
 pub loop-len-init : goal.loop-len-init
@@ -23,11 +23,8 @@ loop-len-preserved c =
     let starts = c.loop-len.starts.items in
     let start = c.loop-len.start + c.in-Some.len in
     let now = c.loop-len.invariant in
-    let line : IsLineLen (drop c.loop-len.start source) c.in-Some.len =
-    subst (λ (bs : List ℕ). IsLineLen bs c.in-Some.len) c.range_from.ensures.value
-    c.in-Some.ensures.some in
-    let next = next_start source (length starts) c.loop-len.start c.in-Some.len c.utf8.source
-    now.here line in
+    let next = next_start source _ (length starts) c.loop-len.start c.in-Some.len c.utf8.source
+    now.here c.range_from.ensures.value c.in-Some.ensures.some in
     let order : c.loop-len.start ≤ start = omega arith in
     rw c.in_ok-push.ensures.items (record {
       here = subst (λ (n : ℕ). IsLineStart source n start)
@@ -40,6 +37,16 @@ loop-len-preserved c =
           omega (arith, last, same, order));
       last = no_later starts c.loop-len.start start order now.last;
     })
+
+pub returns-in_err-push-clause-succeeds : goal.returns-in_err-push-clause-succeeds
+returns-in_err-push-clause-succeeds c = λ none.
+    let source = c.args.source.now in
+    let number = length c.loop-len.starts.items in
+    let start = c.loop-len.start + c.in-Some.len in
+    let next = next_start source _ number c.loop-len.start c.in-Some.len c.utf8.source
+    c.loop-len.invariant.here c.range_from.ensures.value c.in-Some.ensures.some in
+    let all = all_line_feeds source (number + 1) start c.utf8.source next in
+    absurd (omega (arith, all, none))
 
 pub invariant_of-result : goal.invariant_of-result
 invariant_of-result c =
