@@ -1,8 +1,8 @@
 //! Reports on literals and errors, as text or as JSON.
-ghost use Rattle.std.specs.Prelude.{◌≡◌, ◌≤◌, ◌<◌, ◌↔◌, ◌++◌, OnOk, IsTrue, string_bytes};
+ghost use Rattle.std.specs.Prelude.{◌≡◌, ◌≤◌, ◌<◌, ◌↔◌, ◌++◌, IfOk, OnOk, IsTrue, string_bytes};
 ghost use Rattle.litrs_base.specs.CharEnd.{IsCutBy};
 ghost use Rattle.litrs.specs.LiteralDerivation.{derivation};
-ghost use Rattle.litrs_explain.specs.Report.{place_text, IsLiteralReport};
+ghost use Rattle.litrs_explain.specs.Report.{place_text, message_text, note_text, narrowed, IsLiteralReport, IsProblemReport};
 
 use crate::error::Error;
 use crate::json::{literal_object, problem_object};
@@ -44,7 +44,9 @@ pub(crate) struct Problem<'a> {
 
 impl Problem<'_> {
     /// Returns what is wrong.
-    pub(crate) fn message(&self) -> &'static str {
+    pub(crate) fn message(&self) -> &'static str
+        ensures { result.now ≡ message_text self.now.kind }
+    {
         match self.kind {
             Some(kind) => kind.description(),
             None => "byte that is not UTF-8",
@@ -136,7 +138,10 @@ impl<'a> Reports<'a> {
     }
 
     /// Returns the lines on an error for a person.
-    fn problem_lines(&self, problem: &Problem) -> Result<String, AllocError> {
+    fn problem_lines(&self, problem: &Problem) -> Result<String, AllocError>
+        ensures { IfOk result (λ lines. IsProblemReport self.now.options.color
+            self.now.name.now problem.now (string_bytes lines)) }
+    {
         let marked = problem.marked.start..problem.marked.end;
         let diagnostic = Diagnostic::new(self.name, problem.source, marked, problem.message())
             .with_first(narrowed(problem.place.line), narrowed(problem.place.column))
@@ -190,7 +195,9 @@ fn push_literal<B: Buffer>(out: &mut String, literal: &Literal<B>) -> Result<(),
 }
 
 /// Returns the last line on an error.
-fn note(is_incomplete: bool) -> &'static str {
+fn note(is_incomplete: bool) -> &'static str
+    ensures { result.now ≡ note_text is_incomplete }
+{
     if is_incomplete {
         "  this is incomplete: more text can complete it\n"
     } else {
@@ -220,7 +227,9 @@ fn is_other_text(literals: usize, errors: usize) -> bool
 }
 
 /// Returns the number, or the greatest that 32 bits hold.
-fn narrowed(number: usize) -> u32 {
+fn narrowed(number: usize) -> u32
+    ensures { result ≡ narrowed number }
+{
     // bounded by the type: it is the number of a line or a column, not an amount of memory
     u32::try_from(number).unwrap_or(u32::MAX)
 }

@@ -1,11 +1,15 @@
 //! Cuts of texts.
-ghost use Rattle.std.specs.Prelude.{◌<◌, length, IfSome};
+ghost use Rattle.std.specs.Prelude.{◌≡◌, ◌<◌, ◌-◌, ◌++◌, length, option_map, IfSome};
+ghost use Rattle.memchr.specs.Find.{IsFirstByte, is_byte};
 
 use memchr::memchr;
 
 /// Returns the first line of `bytes` with its LF, and what follows it, or `None` if there is no LF.
 pub(crate) fn first_line(bytes: &[u8]) -> Option<(&[u8], &[u8])>
-    ensures { IfSome result (λ parts. length parts.1.now < length bytes.now) }
+    ensures at { IsFirstByte (is_byte 10) bytes.now
+        (option_map (λ parts. length parts.0.now - 1) result) }
+    ensures parts { IfSome result (λ parts. parts.0.now ++ parts.1.now ≡ bytes.now) }
+    ensures shorter { IfSome result (λ parts. length parts.1.now < length bytes.now) }
 {
     let at = memchr(b'\n', bytes)?;
     Some(bytes.split_at(at + 1))

@@ -1,5 +1,5 @@
 -- The settings of a line, and its first fault.
-use Rattle.std.specs.Prelude.{◌≡◌, ◌≢◌, ◌⊎◌, ℕ, pos, Bool, List, [], ◌∷◌, ◌++◌, length, Option, Some, None, take, codes, string_bytes, IsTrue, IsFalse}
+use Rattle.std.specs.Prelude.{◌≡◌, ◌≢◌, ◌⊎◌, ℕ, pos, Bool, List, [], ◌∷◌, ◌++◌, ◌+◌, ◌-◌, length, Option, Some, None, take, codes, string_bytes, IsTrue, IsFalse}
 use Rattle.std.specs.Float.{binary64}
 use Rattle.std.specs.Fmt.{decimal, signed_decimal}
 use Rattle.std.specs.List.{list_all}
@@ -11,7 +11,7 @@ use Rattle.litrs.specs.StringKind.{string_kind}
 use Rattle.litrs.specs.declared.FloatType.TheVariants.{F64}
 use Rattle.litrs.specs.declared.IntegerType.TheVariants.{U16, I64}
 use Rattle.litrs_build.specs.Written.{written_string}
-use Rattle.litrs_diagnostic.specs.Diagnostic.{is_line_feed_or_printable}
+use Rattle.litrs_diagnostic.specs.Diagnostic.{error_on, diagnostic_text, is_line_feed_or_printable}
 use Rattle.litrs_lexer.specs.Token.{is_trivia}
 use Rattle.litrs_lexer.specs.Tokens.{IsFirstToken}
 use Rattle.litrs_lexer.specs.declared.kind.TokenKind.TheVariants.{UnterminatedBlockComment}
@@ -172,6 +172,14 @@ Describes (Ratio x) written = (digits : List ℕ) × (written ≡ codes "ratio i
 Describes (Rename text) written = (literal : List ℕ) × (written ≡ codes "rename is " ++ literal)
     × (chars literal ≡ string_text string_kind (written_string (chars (string_bytes text)) []))
 Describes (Skip b) written = written ≡ codes "skip is " ++ bool_text b
+
+-- The text is an error with some message on the marked part of the line, which has this number.
+abbrev pub Shows : (line : List ℕ) (number : ℕ) → Fault → (written : List ℕ) → Type 0
+Shows line number fault written = (message : List ℕ)
+    × (chars written ≡ diagnostic_text (record (error_on (codes "settings") line
+    (length line - length fault.at.now + fault.span.start)
+    (length line - length fault.at.now + fault.span.end) message)
+    { first_line = number; first_column = 1; width = 100 }))
 
 -- each character is printable or a line feed
 abbrev pub IsPrintable : (written : List ℕ) → Type 0

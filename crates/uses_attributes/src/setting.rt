@@ -1,6 +1,6 @@
 //! The settings of a line.
 ghost use Rattle.std.specs.Prelude.{◌≡◌, ◌++◌, IfOk, IfErr, IfSome, string_bytes};
-ghost use Rattle.uses_attributes.specs.Settings.{Describes, IsPrintable, IsWord, IsUnexpected, IsTyped, IsValueFault, BeginsWith, IsFaultOf, HasSettings, IsIn, IsNoFailure};
+ghost use Rattle.uses_attributes.specs.Settings.{Describes, Shows, IsPrintable, IsWord, IsUnexpected, IsTyped, IsValueFault, BeginsWith, IsFaultOf, HasSettings, IsIn, IsNoFailure};
 
 use crate::word::{Fault, Problem, Word};
 use litrs_build::string;
@@ -138,7 +138,9 @@ fn unexpected<'a>(expected: &'static str, at: &'a str, text: &str, rest: &str) -
 /// Returns the lines that show a fault in the line with this number.
 pub fn show(alloc: Global, line: &str, number: u32, fault: &Fault<'_>) -> Result<String, AllocError>
     requires { IsIn line.now fault.now }
-    ensures { IfOk result (λ text. IsPrintable (string_bytes text)) }
+    ensures shows { IfOk result (λ text.
+        Shows line.now number fault.now (string_bytes text)) }
+    ensures printable { IfOk result (λ text. IsPrintable (string_bytes text)) }
 {
     let message = format!(in alloc; "{}", fault.problem)?;
     let offset = line.len() - fault.at.len();

@@ -7,10 +7,10 @@
 //! ten.
 #![tactic(auto)]
 
-ghost use Rattle.std.specs.Prelude.{◌≡◌, IfOk, MatchOption, string_bytes};
+ghost use Rattle.std.specs.Prelude.{◌≡◌, IfOk, IsErr, MatchOption, string_bytes};
 ghost use Rattle.std.specs.Str.{chars};
 ghost use Rattle.litrs.specs.Derivations.{HasNoDerivation};
-ghost use Rattle.litrs.specs.Literal.{IsLiteral};
+ghost use Rattle.litrs.specs.Literal.{Derivation, IsLiteral};
 ghost use Rattle.litrs.specs.LiteralDerivation.{derivation};
 ghost use Rattle.uses_formatter.specs.Form.{is_raw_literal, style, IsForm, IsFormOf};
 
@@ -29,11 +29,13 @@ fn main(rt: HostRuntime) -> anyhow::Result<()> {
     Ok(())
 }
 
-/// Returns the literal `text` in the standard form, or `None` if `text` is not a literal.
+/// Returns the literal `text` in the standard form, or `None` if `text` is not a literal. Nothing
+/// is allocated then.
 pub fn formatted(alloc: Global, text: &str) -> Result<Option<String>, AllocError>
-    ensures { IfOk result (λ form. MatchOption form
+    ensures form { IfOk result (λ form. MatchOption form
         (HasNoDerivation (IsLiteral (chars text.now)))
         (λ written. IsForm (chars text.now) (chars (string_bytes written)))) }
+    ensures err { IsErr result → (d : Derivation) × IsLiteral (chars text.now) d }
 {
     match &Literal::parse(alloc, text) {
         Ok(lit) => Ok(Some(written(alloc, lit)?)),
