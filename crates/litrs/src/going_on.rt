@@ -22,8 +22,8 @@ mod word;
 ///
 /// It is `true` for the empty text, `fals`, `12`, `1e+_`, `'a`, `"a"_` and `"\u{d800`, and `false`
 /// for `cat`, `0xg`, `1e+x`, `'ab`, `"\q` and `"\u{00d800`. If it is `false`, no longer text is a
-/// literal. It is `false` after each final error, and `true` after each open one. It does not
-/// allocate. See [the reference][ref].
+/// literal. It is `false` after each final error of [`Literal::parse`](crate::Literal::parse), and
+/// `true` after each open one. It does not allocate. See [the reference][ref].
 ///
 /// A list of literals may be cut at the first comma that is not within a literal, by
 /// `!goes_on(&text[..comma + 1])`. Each call reads the text from its start, so this takes time

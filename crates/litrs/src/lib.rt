@@ -42,8 +42,8 @@
 //!
 //! A [`ParseError`] has a kind and mostly a span: for `0b12`, [`IntegerLit::parse`] returns
 //! `InvalidDigit` at 3..4. Spans are in bytes. `char_span` ends after a whole character, so the
-//! text can be cut there. If the error `is_final`, no longer text is a literal. If it `is_open`,
-//! the text with its closing quote, and the hashes of a raw string, is one.
+//! text can be cut there. If the error `is_final`, no longer text is a literal for the same parse.
+//! If it `is_open`, the text with its closing quote, and the hashes of a raw string, is one.
 //!
 //! # Prompts
 //!
@@ -146,7 +146,8 @@ impl<B: Text> Literal<B> {
     /// # Errors
     ///
     /// Returns `Empty`; the error of the kind that `input` starts like, for example
-    /// `UnexpectedChar` at 1..2 for `0 `; or `InvalidLiteral` if it does not start like any kind.
+    /// `UnexpectedChar` at 1..2 for `0 `, or `InvalidCStringLiteralStart` for each other text that
+    /// starts with `c`; or `InvalidLiteral` if it does not start like any kind.
     /// Returns `OutOfMemory` without a span if `input` is a literal and the allocation of its value
     /// fails.
     // Inlined, like each parse: CONTRIBUTING says why.

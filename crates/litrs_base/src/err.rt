@@ -130,15 +130,17 @@ impl ParseError {
     }
 
     /// Returns `true` if the error is final: no text that starts with the invalid one is a literal
-    /// for the same parse. It is for `0b12`, but not for `0x`, because `0x1` is a literal.
+    /// for the same parse. It is for `0b12`, but not for `0x`, because `0x1` is a literal. For some
+    /// errors that are not final, such as that of `yes`, no longer text is a literal either.
     pub fn is_final(&self) -> bool
         ensures { result ≡ is_final (kind_of self.now) }
     {
         self.kind().is_final()
     }
 
-    /// Returns `true` if the error is open: only the closing quote of a string is missing, with the
-    /// hashes of a raw one. It is for `"ab` and `r#"ab"`, but not for `'a`.
+    /// Returns `true` if the error is open: the closing quote of a string, with the hashes of a raw
+    /// one, makes the text a literal. It is for `"ab` and `r#"ab"`, but not for `'a`, nor for `"\n`,
+    /// whose error is that of the escape.
     pub fn is_open(&self) -> bool
         ensures { result ≡ is_open (kind_of self.now) }
     {
@@ -235,7 +237,8 @@ pub enum ParseErrorKind {
     NoExponentDigits,
     /// A backslash is followed by a character that does not start an escape.
     UnknownEscape,
-    /// The text ends inside an escape.
+    /// The text ends inside or after an escape, or a `\x` escape of a char has a character that is
+    /// not ASCII.
     UnterminatedEscape,
     /// `\x` is not followed by two hex digits.
     InvalidXEscape,

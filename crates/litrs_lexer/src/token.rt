@@ -45,8 +45,7 @@ impl<'a> Token<'a> {
     }
 
     /// Parses the literal of a token of the kind `Literal`. Returns `None` if the kind is neither
-    /// `Literal` nor `MalformedLiteral`. There is one allocation for the value of a C string, and
-    /// of a quoted string or byte string with a backslash.
+    /// `Literal` nor `MalformedLiteral`. It allocates like [`Literal::parse`].
     ///
     /// # Errors
     ///

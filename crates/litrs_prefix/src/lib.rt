@@ -63,11 +63,13 @@ pub struct Prefix<'a> {
 }
 
 /// An error: a literal begins at the front of a text, and none is valid, or an allocation failed.
+/// [`parse_until`] returns it for other texts too.
 #[derive(Debug, Drop)]
 pub struct MalformedPrefix {
     /// The error of [`Literal::parse`] for the malformed prefix.
     pub error: ParseError,
-    /// The length of the malformed prefix, in bytes. A reader can continue after it.
+    /// The length of the malformed prefix, in bytes. A reader can continue after it. It is 0 only
+    /// for [`parse_until`], if no text precedes the delimiter.
     pub len: usize,
 }
 
@@ -89,9 +91,8 @@ impl MalformedPrefix {
 /// begins there, for example before a name, a lifetime, a blank or punctuation.
 ///
 /// The literal is the only one that can be there. Its suffix is the whole name after its body, and
-/// no digit, period, quote or hash after it makes it another token. There is one allocation for
-/// the value of a C string, and of a quoted string or byte string whose body has a backslash. See
-/// [the reference][ref].
+/// no digit, period, quote or hash after it makes it another token. It allocates like
+/// [`Literal::parse`] for the literal. See [the reference][ref].
 ///
 /// # Errors
 ///
