@@ -140,14 +140,14 @@ impl<B: Text> Literal<B> {
     /// Parses `input` as a literal of any kind, which its start decides.
     ///
     /// For example, `true` is a bool, and `1_000u32` an integer with the suffix `u32`. The value of
-    /// a C string, and of a quoted string or byte string with a backslash, is allocated, once
+    /// a C string is allocated once. So is that of a quoted string or byte string with a backslash,
     /// unless it is empty. Otherwise nothing is.
     ///
     /// # Errors
     ///
-    /// Returns `Empty`; the error of the kind that `input` starts like, for example
-    /// `UnexpectedChar` at 1..2 for `0 `, or `InvalidCStringLiteralStart` for each other text that
-    /// starts with `c`; or `InvalidLiteral` if it does not start like any kind.
+    /// Returns `Empty`; the error of the kind that `input` starts like; or `InvalidLiteral` if it
+    /// does not start like any kind. For `0 ` that is `UnexpectedChar` at 1..2, and for `cat`
+    /// `InvalidCStringLiteralStart`.
     /// Returns `OutOfMemory` without a span if `input` is a literal and the allocation of its value
     /// fails.
     // Inlined, like each parse: CONTRIBUTING says why.

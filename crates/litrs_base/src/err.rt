@@ -138,9 +138,9 @@ impl ParseError {
         self.kind().is_final()
     }
 
-    /// Returns `true` if the error is open: the closing quote of a string, with the hashes of a raw
-    /// one, makes the text a literal. It is for `"ab` and `r#"ab"`, but not for `'a`, nor for `"\n`,
-    /// whose error is that of the escape.
+    /// Returns `true` if the error is open: it is that of an unterminated string. The closing quote,
+    /// with the hashes of a raw string, then makes the text a literal. It is for `"ab` and `r#"ab"`,
+    /// but not for `'a`, nor for `"\n`, whose error is that of the escape.
     pub fn is_open(&self) -> bool
         ensures { result ≡ is_open (kind_of self.now) }
     {
@@ -237,8 +237,7 @@ pub enum ParseErrorKind {
     NoExponentDigits,
     /// A backslash is followed by a character that does not start an escape.
     UnknownEscape,
-    /// The text ends inside or after an escape, or a `\x` escape of a char has a character that is
-    /// not ASCII.
+    /// The text ends inside or after an escape, or the two bytes after `\x` end inside a character.
     UnterminatedEscape,
     /// `\x` is not followed by two hex digits.
     InvalidXEscape,

@@ -17,8 +17,8 @@ abbrev pub written_byte : ℕ → List ℕ → CharParts
 written_byte b suffix =
     record { item = spelled_char (byte_spelling single_quote b); suffix = suffix }
 
--- The items of characters in a string. The spelling of each depends on a quote or an escape before
--- it.
+-- The items of characters in a string. The spelling of each depends on the opening quote or an
+-- escape before it.
 abbrev pub char_items : (follows_mark : Bool) → List ℕ → List Item
 char_items follows_mark [] = []
 char_items follows_mark (c ∷ cs) =

@@ -24,7 +24,7 @@ pub(crate) enum Spelling {
 
 impl Spelling {
     /// Returns the spelling of `c` between such quotes. A character that is not printable is
-    /// escaped, and so is a combining one that follows a quote or an escape.
+    /// escaped, and so is a combining one that follows the opening quote or an escape.
     pub(crate) fn of_char(c: char, quote: char, follows_mark: bool) -> Spelling
         ensures { result ≡ char_spelling quote follows_mark c }
     {
@@ -103,7 +103,7 @@ impl Spelling {
 }
 
 /// Returns the spelling of a character that has no short escape. This is itself if it is printable
-/// and does not combine with a quote or an escape before it, otherwise its number.
+/// and does not combine with the opening quote or an escape before it, otherwise its number.
 fn shown_or_number(c: char, follows_mark: bool) -> Spelling
     ensures { result ≡ shown_or_number follows_mark c }
 {

@@ -152,8 +152,8 @@ typedef struct litrs_literal {
 typedef struct litrs_refusal {
     uint32_t kind;         /* enum litrs_error */
     litrs_bool has_span;   /* true if it points at a part of the text; else both spans are 0..0 */
-    litrs_bool is_final;   /* true if no text that begins with this one is a literal */
-    litrs_bool is_open;    /* true if a string only lacks its closing quote and hashes */
+    litrs_bool is_final;   /* true only if no text that begins with this one is a literal */
+    litrs_bool is_open;    /* true only if a string lacks just its closing quote and hashes */
     litrs_place span;      /* the part of the text; it may end inside a character */
     litrs_place char_span; /* the part of the text, up to the end of its last character */
 } litrs_refusal;

@@ -6,7 +6,7 @@ use Rattle.litrs_base.specs.declared.err.ParseError.{ParseError}
 use Rattle.litrs_base.specs.declared.err.ParseErrorKind.TheVariants as kind
 use Rattle.litrs_base.specs.declared.integer.IntegerBase.TheVariants.{Decimal, Hexadecimal}
 use Rattle.litrs_grammar.specs.Literal.{Derivation, raw_parts, a_bool, an_integer, a_float, a_byte_string, IsLiteral, literal_parse}
-use Rattle.litrs_grammar.specs.Refused.{IsRefused}
+use Rattle.litrs_grammar.specs.Refused.{IsRefused, MayLackMemory}
 use Rattle.litrs_grammar.proofs.Computing.{computing}
 use Rattle.litrs_lexer.specs.Comment.{doc_style}
 use Rattle.litrs_lexer.specs.Token.{is_trivia}
@@ -19,7 +19,7 @@ use Rattle.litrs_c.specs.declared.LiteralFields.{LiteralFields}
 use Rattle.litrs_c.specs.declared.Place.{Place}
 use Rattle.litrs_c.specs.declared.RefusalFields.{RefusalFields}
 use Rattle.litrs_c.specs.declared.tokens.TokenFields.{TokenFields}
-use Rattle.litrs_c.specs.Answers.{IsLiteralAnd, IsRefusedAnd, LacksMemory, IsKept, IsWritten, IsWrittenFrom, WritesValue, WritesMessage}
+use Rattle.litrs_c.specs.Answers.{IsLiteralAnd, IsRefusedAnd, IsKept, IsWritten, IsWrittenFrom, WritesValue, WritesMessage}
 use Rattle.litrs_c.specs.Codes.{token_code, doc_code}
 use Rattle.litrs_c.specs.LiteralFields.{IsLiteralFields}
 use Rattle.litrs_c.specs.Numbers.{IsCopied, LacksNumberMemory}
@@ -222,5 +222,5 @@ bool_stays : ¬ IsCopied (a_bool true)
 bool_stays copied = copied
 
 -- there was no memory for the value of a text that is not a number, or for the number
-number_lacks_memory : (t : List ℕ) → LacksNumberMemory t → LacksMemory t ⊎ IsLiteralAnd t IsCopied
+number_lacks_memory : (t : List ℕ) → LacksNumberMemory t → MayLackMemory t ⊎ IsLiteralAnd t IsCopied
 number_lacks_memory t is = is

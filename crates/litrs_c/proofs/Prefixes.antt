@@ -1,14 +1,14 @@
 -- The front of a text: the bytes that follow it, and the error of an allocation failure.
-use Rattle.std.proofs.Common.{◌≡◌, ℕ, ◌+◌, ◌≤◌, List, ◌++◌, length, drop, refl, sym, ap, ◌∙◌, subst, inl, inr, length-append, arith}
+use Rattle.std.proofs.Common.{◌≡◌, ℕ, ◌+◌, ◌≤◌, List, ◌++◌, length, drop, refl, sym, ap, ◌∙◌, subst, length-append, arith}
 use Rattle.std.proofs.Math.Seq.{drop-append_seam}
 use Rattle.std.specs.Str.{chars}
 use Rattle.litrs_base.specs.declared.err.ParseErrorKind.TheVariants.{OutOfMemory}
-use Rattle.litrs_base.specs.Refusal.{refusal_of, kind_of}
-use Rattle.litrs_grammar.specs.Literal.{Derivation, literal_parse}
-use Rattle.litrs_grammar.proofs.RefusalKinds.{no_refusal_is_of_memory}
+use Rattle.litrs_base.specs.Refusal.{kind_of}
+use Rattle.litrs_grammar.specs.Literal.{Derivation}
 use Rattle.litrs_prefix.specs.declared.MalformedPrefix.{MalformedPrefix}
 use Rattle.litrs_prefix.specs.Malformed.{IsMalformedOrOutOfMemory}
 use Rattle.litrs_prefix.specs.Prefix.{HasPrefix}
+use Rattle.litrs_prefix.proofs.OutOfMemory.{of_memory}
 use Rattle.litrs_c.specs.Prefixes.{LacksMemoryAt}
 
 -- the rest is all but the first bytes
@@ -25,6 +25,4 @@ front_within raw rest text len spells is =
     omega arith
 
 pub lacks_memory_at : (t : List ℕ) (m : MalformedPrefix) → IsMalformedOrOutOfMemory t m → kind_of m.error ≡ OutOfMemory → LacksMemoryAt t m.len
-lacks_memory_at t m (inl malformed) is =
-    absurd (no_refusal_is_of_memory literal_parse malformed.front (refusal_of m.error) malformed.refused.table is)
-lacks_memory_at t m (inr memory) is = (m, memory, refl)
+lacks_memory_at t m error is = (m, of_memory t m is error, refl)

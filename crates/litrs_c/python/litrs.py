@@ -128,8 +128,8 @@ class ParseError(ValueError):
     kind      such as "InvalidDigit", which the header calls LITRS_ERROR_INVALID_DIGIT
     span      the start and the end of what is wrong, such as (2, 3), or None
     message   what is wrong, such as "input is empty"; a place in it counts bytes
-    is_final  True if no text that begins with this one is a literal
-    is_open   True if a string only lacks its closing quote and hashes
+    is_final  True only if no text that begins with this one is a literal
+    is_open   True only if a string lacks just its closing quote and hashes
     length    the length of the malformed literal, which for `parse` is that of the text
 
     It can be copied and pickled, also as a subclass with another constructor.

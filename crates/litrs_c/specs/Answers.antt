@@ -4,7 +4,7 @@ use Rattle.litrs_base.specs.declared.err.ParseError.{ParseError}
 use Rattle.litrs_base.specs.Derivations.{IsOnlyDerivation}
 use Rattle.litrs_base.specs.Refusal.{refusal_of, refusal_text}
 use Rattle.litrs_grammar.specs.Literal.{Derivation, IsLiteral, literal_parse}
-use Rattle.litrs_grammar.specs.Refused.{IsRefused, IsOutOfMemory}
+use Rattle.litrs_grammar.specs.Refused.{IsRefused}
 use Rattle.litrs_c.specs.LiteralFields.{bytes_of}
 
 -- The text is a literal, and the condition holds for its only derivation.
@@ -14,10 +14,6 @@ IsLiteralAnd t Says = (d : Derivation) × IsOnlyDerivation (IsLiteral t) d × Sa
 -- The text is refused, and the condition holds for the error.
 abbrev pub IsRefusedAnd : List ℕ → (ParseError → Type 0) → Type 0
 IsRefusedAnd t Says = (e : ParseError) × IsRefused literal_parse t e × Says e
-
--- The text is a literal, and the allocation of its value failed.
-abbrev pub LacksMemory : List ℕ → Type 0
-LacksMemory t = (e : ParseError) × IsOutOfMemory literal_parse t e
 
 -- The room with as many of the bytes as fit at its front. The rest of the room is unchanged.
 abbrev pub filled : (bytes room : List ℕ) → List ℕ

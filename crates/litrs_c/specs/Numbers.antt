@@ -3,8 +3,9 @@ use Rattle.std.specs.Prelude.{◌⊎◌, ℕ, List, IsTrue}
 use Rattle.std.specs.List.{list_any}
 use Rattle.litrs_grammar.specs.Float.{number_part, is_underscore}
 use Rattle.litrs_grammar.specs.Literal.{Derivation, an_integer, a_float}
+use Rattle.litrs_grammar.specs.Refused.{MayLackMemory}
 use Rattle.litrs_value.specs.Refuses.{IsLargeWithUnderscore}
-use Rattle.litrs_c.specs.Answers.{IsLiteralAnd, LacksMemory}
+use Rattle.litrs_c.specs.Answers.{IsLiteralAnd}
 
 -- The digits of the number are copied without their underscores: those of a float, or of an integer
 -- in base ten that is at least 2^64.
@@ -15,4 +16,4 @@ IsCopied _ = ⊥
 
 -- The allocation of that copy failed, or that of the value of a literal that is not a number.
 abbrev pub LacksNumberMemory : List ℕ → Type 0
-LacksNumberMemory t = LacksMemory t ⊎ IsLiteralAnd t IsCopied
+LacksNumberMemory t = MayLackMemory t ⊎ IsLiteralAnd t IsCopied

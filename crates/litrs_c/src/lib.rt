@@ -9,12 +9,13 @@ ghost use Rattle.std.specs.Prelude.{◌≡◌, ◌≢◌, ◌≤◌, ◌↔◌, 
 ghost use Rattle.std.specs.Str.{chars, IsUtf8};
 ghost use Rattle.litrs_base.specs.Derivations.{HasNoDerivation};
 ghost use Rattle.litrs_grammar.specs.Literal.{IsLiteral, literal_parse, Begins};
+ghost use Rattle.litrs_grammar.specs.Refused.{MayLackMemory};
 ghost use Rattle.litrs.specs.LiteralDerivation.{derivation};
 ghost use Rattle.litrs_c.specs.LiteralFields.{IsLiteralFields, bytes_of};
 ghost use Rattle.litrs_c.specs.RefusalFields.{IsRefusalFields};
 ghost use Rattle.litrs_prefix.specs.Opens.{opens};
 ghost use Rattle.litrs_c.specs.Prefixes.{IsPrefixAnd, IsMalformedAnd, LacksMemoryAt};
-ghost use Rattle.litrs_c.specs.Answers.{IsLiteralAnd, IsRefusedAnd, LacksMemory, IsKept, WritesValue, WritesMessage};
+ghost use Rattle.litrs_c.specs.Answers.{IsLiteralAnd, IsRefusedAnd, IsKept, WritesValue, WritesMessage};
 
 use literals::{NO_LITERAL, write_literal_fields};
 use litrs::{Literal, ParseErrorKind};
@@ -94,9 +95,9 @@ pub struct RefusalFields {
     pub kind: u32,
     /// `true` if it points at a part of the text.
     pub has_span: bool,
-    /// `true` if no text that begins with this one is a literal.
+    /// `true` only if no text that begins with this one is a literal.
     pub is_final: bool,
-    /// `true` if a string only lacks its closing quote, with the hashes of a raw one.
+    /// `true` only if a string lacks nothing but its closing quote, with the hashes of a raw one.
     pub is_open: bool,
     /// The part of the text. The start is a character boundary.
     pub span: Place,
@@ -157,7 +158,7 @@ pub extern "C" fn litrs_parse(alloc: Global, text: &[u8]) -> Answer
         (λ d. IsLiteralFields (length text.now) d result.literal) }
     ensures refused { result.status ≡ REFUSED → IsRefusedAnd (chars text.now)
         (λ e. IsRefusalFields e result.refusal) }
-    ensures memory { result.status ≡ OUT_OF_MEMORY → LacksMemory (chars text.now) }
+    ensures memory { result.status ≡ OUT_OF_MEMORY → MayLackMemory (chars text.now) }
     ensures no_literal { result.status ≢ LITERAL → result.literal ≡ NO_LITERAL }
     ensures no_refusal { result.status ≢ REFUSED → result.refusal ≡ NO_REFUSAL }
 {
@@ -193,7 +194,7 @@ pub extern "C" fn litrs_parse_into(alloc: Global, text: &[u8], answer: &mut Answ
         (λ d. IsLiteralFields (length text.now) d answer.new.literal) }
     ensures refused { answer.new.status ≡ REFUSED → IsRefusedAnd (chars text.now)
         (λ e. IsRefusalFields e answer.new.refusal) }
-    ensures memory { answer.new.status ≡ OUT_OF_MEMORY → LacksMemory (chars text.now) }
+    ensures memory { answer.new.status ≡ OUT_OF_MEMORY → MayLackMemory (chars text.now) }
     ensures no_literal { answer.new.status ≢ LITERAL → answer.new.literal ≡ answer.old.literal }
     ensures no_refusal { answer.new.status ≢ REFUSED → answer.new.refusal ≡ answer.old.refusal }
 {
@@ -212,7 +213,7 @@ fn parse_text(alloc: Global, text: &str, answer: &mut Answer)
         (λ d. IsLiteralFields (length text.now) d answer.new.literal) }
     ensures refused { answer.new.status ≡ REFUSED → IsRefusedAnd (chars text.now)
         (λ e. IsRefusalFields e answer.new.refusal) }
-    ensures memory { answer.new.status ≡ OUT_OF_MEMORY → LacksMemory (chars text.now) }
+    ensures memory { answer.new.status ≡ OUT_OF_MEMORY → MayLackMemory (chars text.now) }
     ensures no_literal { answer.new.status ≢ LITERAL → answer.new.literal ≡ answer.old.literal }
     ensures no_refusal { answer.new.status ≢ REFUSED → answer.new.refusal ≡ answer.old.refusal }
 {
@@ -325,7 +326,7 @@ pub extern "C" fn litrs_value(alloc: Global, text: &[u8], room: &mut [u8]) -> Wr
     ensures other { result.status ≡ NO_STRING →
         IsLiteralAnd (chars text.now) (λ d. bytes_of d ≡ None) }
     ensures refused { result.status ≡ REFUSED → HasNoDerivation (IsLiteral (chars text.now)) }
-    ensures memory { result.status ≡ OUT_OF_MEMORY → LacksMemory (chars text.now) }
+    ensures memory { result.status ≡ OUT_OF_MEMORY → MayLackMemory (chars text.now) }
     ensures kept { result.status ≢ LITERAL → IsKept room.old room.new result.len }
 {
     match str::from_utf8(text) {
@@ -343,7 +344,7 @@ fn write_value(alloc: Global, text: &str, room: &mut [u8]) -> Written
     ensures other { result.status ≡ NO_STRING →
         IsLiteralAnd (chars text.now) (λ d. bytes_of d ≡ None) }
     ensures refused { result.status ≡ REFUSED → HasNoDerivation (IsLiteral (chars text.now)) }
-    ensures memory { result.status ≡ OUT_OF_MEMORY → LacksMemory (chars text.now) }
+    ensures memory { result.status ≡ OUT_OF_MEMORY → MayLackMemory (chars text.now) }
     ensures kept { result.status ≢ LITERAL → IsKept room.old room.new result.len }
 {
     match Literal::parse(alloc, text) {
@@ -383,7 +384,7 @@ pub extern "C" fn litrs_message(alloc: Global, text: &[u8], room: &mut [u8]) -> 
     ensures literal { result.status ≡ LITERAL → IsLiteralAnd (chars text.now) (λ _. ⊤) }
     ensures message { result.status ≡ REFUSED →
         IsRefusedAnd (chars text.now) (WritesMessage room.old room.new result.len) }
-    ensures memory { result.status ≡ OUT_OF_MEMORY → LacksMemory (chars text.now) }
+    ensures memory { result.status ≡ OUT_OF_MEMORY → MayLackMemory (chars text.now) }
     ensures kept { result.status ≢ REFUSED → IsKept room.old room.new result.len }
 {
     match str::from_utf8(text) {
@@ -399,7 +400,7 @@ fn write_message(alloc: Global, text: &str, room: &mut [u8]) -> Written
     ensures literal { result.status ≡ LITERAL → IsLiteralAnd (chars text.now) (λ _. ⊤) }
     ensures message { result.status ≡ REFUSED →
         IsRefusedAnd (chars text.now) (WritesMessage room.old room.new result.len) }
-    ensures memory { result.status ≡ OUT_OF_MEMORY → LacksMemory (chars text.now) }
+    ensures memory { result.status ≡ OUT_OF_MEMORY → MayLackMemory (chars text.now) }
     ensures kept { result.status ≢ REFUSED → IsKept room.old room.new result.len }
 {
     match Literal::parse(alloc, text) {

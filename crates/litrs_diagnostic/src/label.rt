@@ -6,8 +6,8 @@ use std::ops::Range;
 
 /// A label on a further range of the text of a [`Diagnostic`](crate::Diagnostic).
 ///
-/// The line on which the range begins is shown, unless it is the line above and all of that is
-/// shown, and the range is marked by `-`. If the range continues in the next line, the rest of its
+/// The range is marked by `-` below the line on which it begins. That line is not shown again if it
+/// is the line above and was shown whole. If the range continues in the next line, the rest of its
 /// first line is marked.
 #[derive(Clone, Copy, Debug)]
 pub struct Label<'a> {

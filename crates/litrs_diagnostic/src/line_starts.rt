@@ -38,8 +38,8 @@ impl<'a> Model for Lines<'a> {
 }
 
 impl<'a> Lines<'a> {
-    /// Returns the index of the lines of `source`. Its starts are allocated again while they grow,
-    /// and not if there is only one line.
+    /// Returns the index of the lines of `source`. Its starts are allocated again while they grow.
+    /// If there is no LF, nothing is allocated.
     ///
     /// # Errors
     ///

@@ -17,8 +17,8 @@ use std::ops::Range;
 /// begins. If it ends on a later line, they write that line too. Below the part of the range in
 /// each line there are carets, at least one. A CR before the LF of a line is not shown, unless the
 /// range begins between them and more lines follow. An LF at the end of the text ends its last
-/// line: a range that ends after it is shown as if it ended with that line. If a line has more columns than `width`, the
-/// range comes first, if it fits, and then the text around it.
+/// line: a range that ends after it is shown as if it ended with that line. If a line has more
+/// columns than `width`, the range comes first, if it fits, and then the text around it.
 ///
 /// [`Diagnostic::new`] makes an error on a whole text, and the methods `with_..` change it. A
 /// [`Label`] marks a further range.

@@ -43,7 +43,7 @@ problem_message name p = record (error_on name p.source.now p.marked.start p.mar
     { first_line = narrowed p.place.line; first_column = narrowed p.place.column; width = 100 }
 
 -- The report is the text of this message, perhaps in color, and the line on more text. A line on a
--- sign may follow if the text is not a literal of any kind.
+-- sign may follow if the kind is `InvalidLiteral`.
 pub record IsProblemReport
     (is_colored : Bool) (name : List ℕ) (p : Problem) (report : List ℕ) : Type 0 where
   pub message : List ℕ

@@ -35,7 +35,8 @@ allocates (a_string d) = has_escapes d
 allocates (a_byte_string d) = has_escapes d
 allocates (a_c_string d) = true
 
--- `true` iff such a value takes memory: it is not empty, or the zero byte of a C string follows it.
+-- `true` iff the value takes memory if it is allocated: it is not empty, or the zero byte of a C
+-- string follows it. It is `true` for the kinds whose value is never allocated.
 abbrev pub takes_memory : Derivation → Bool
 takes_memory (a_string d) = not (is_empty (string_value d))
 takes_memory (a_byte_string d) = not (is_empty (string_value d))

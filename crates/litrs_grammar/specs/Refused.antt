@@ -9,7 +9,7 @@ use Rattle.litrs_base.specs.Finality.{is_final, is_open}
 use Rattle.litrs_base.specs.Refusal.{Refusal, without_span, refusal_of, kind_of, char_span_of, IsInText, HasCharSpan}
 use Rattle.litrs_grammar.specs.LongerTexts.{BeginsBy, EndsBy}
 use Rattle.litrs_grammar.specs.Closing.{closing_of, IsClosedBy}
-use Rattle.litrs_grammar.specs.Literal.{Derivation, Parse, IsLiteralOf}
+use Rattle.litrs_grammar.specs.Literal.{Derivation, Parse, literal_parse, IsLiteralOf}
 use Rattle.litrs_grammar.specs.LiteralRefusals.{IsRefusal}
 use Rattle.litrs_grammar.specs.Allocation.{allocates, takes_memory}
 
@@ -52,3 +52,8 @@ pub record IsOutOfMemory (parse : Parse) (t : List ℕ) (e : ParseError) : Type 
 -- The error of a parse that may allocate.
 abbrev pub IsRefusedOrOutOfMemory : Parse → List ℕ → ParseError → Type 0
 IsRefusedOrOutOfMemory parse t e = IsRefused parse t e ⊎ IsOutOfMemory parse t e
+
+-- The text is a literal whose value is allocated and takes memory, so its parse may run out of
+-- memory.
+abbrev pub MayLackMemory : List ℕ → Type 0
+MayLackMemory t = (e : ParseError) × IsOutOfMemory literal_parse t e

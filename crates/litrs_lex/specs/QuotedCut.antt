@@ -79,7 +79,7 @@ abbrev pub IsOutOfMemory : ParseError → Type 0
 IsOutOfMemory e = refusal_of e ≡ without_span OutOfMemory
 
 -- The text is a quoted literal whose body has a backslash, and the error is that the allocation of
--- its value failed. If NUL is allowed, and no closing zero is needed, the value is not empty.
+-- its value failed. If NUL is allowed, the value has no closing zero, and is not empty.
 pub record IsQuotedOutOfMemory (w : Switches) (bytes : List ℕ) (offset : ℕ) (e : ParseError)
     : Type 0 where
   pub cut : QuotedCut

@@ -36,7 +36,8 @@ const LONGEST: usize = 4 * LONG;
 ///
 /// `offset` and the switches are those of [`cut_quoted`]. `byte_escapes` is set only if the
 /// container can hold all bytes. There is one allocation, of the length of the value, and none if
-/// it is 0. If NUL is not allowed, it has one byte more, for the closing zero of a C string.
+/// that is 0 and NUL is allowed. If NUL is not allowed, it has one byte more, for the closing zero
+/// of a C string.
 ///
 /// # Errors
 ///

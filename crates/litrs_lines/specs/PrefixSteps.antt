@@ -1,5 +1,5 @@
 -- The steps of a collector for the literal at the front of the lines that it has, joined by LF.
-use Rattle.std.specs.Prelude.{◌≡◌, ℕ, List, [], ◌∷◌, ◌++◌, IsFalse}
+use Rattle.std.specs.Prelude.{◌≡◌, ◌⊎◌, ℕ, List, [], ◌∷◌, ◌++◌, IsFalse}
 use Rattle.std.specs.Str.{chars, IsUtf8}
 use Rattle.litrs.specs.LiteralDerivation.{literal_raw, derivation}
 use Rattle.litrs_base.specs.Characters.{line_feed}
@@ -21,6 +21,15 @@ IsFront t (Literal lit rest) =
     (literal_raw lit ++ rest.now ≡ t) × HasPrefix (chars t) (derivation lit) (chars rest.now)
 IsFront t NoLiteral = IsFalse (opens (chars t))
 IsFront t (Malformed e) = IsMalformed (chars t) e
+
+-- The text has a literal at its front.
+abbrev pub HasFront : List ℕ → Type 0
+HasFront t = (d : Derivation) × (rest : List ℕ) × HasPrefix (chars t) d rest
+
+-- The text has a literal at its front, or with an LF after it begins one. No other first line is
+-- copied.
+abbrev pub MayBeCopiedToFront : List ℕ → Type 0
+MayBeCopiedToFront t = HasFront t ⊎ BeginsByLine t
 
 -- The step of a text: it is unfinished; or, with an LF after it, it does not begin a literal, and
 -- the step tells its front.

@@ -19,8 +19,8 @@ abbrev pub IsUnfinished : List ℕ → Type 0
 IsUnfinished t = HasNoDerivation (IsLiteral (chars t)) × BeginsByLine t
 
 -- The text is a literal, or with an LF after it begins one. No other first line is copied.
-abbrev pub IsCopied : List ℕ → Type 0
-IsCopied t = ((d : Derivation) × IsLiteral (chars t) d) ⊎ BeginsByLine t
+abbrev pub MayBeCopied : List ℕ → Type 0
+MayBeCopied t = ((d : Derivation) × IsLiteral (chars t) d) ⊎ BeginsByLine t
 
 -- The literal is the only derivation of the text.
 abbrev pub IsReadAs : {B : Type 0} → List ℕ → AnyLiteral B → Type 0

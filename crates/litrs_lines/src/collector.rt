@@ -11,8 +11,8 @@ ghost use Rattle.litrs_grammar.specs.Refused.{IsRefused};
 ghost use Rattle.litrs_prefix.specs.Ends.{IsEndOf};
 ghost use Rattle.litrs_lines.specs.Held.{IsHeld, IsRefusalOfHeld};
 ghost use Rattle.litrs_lines.specs.Open.{IsAfter, IsReadToLastLine};
-ghost use Rattle.litrs_lines.specs.PrefixSteps.{EndsInLine, IsAfterLiteral, IsFront, IsHeldBefore, IsPrefixStep, held_after_prefix};
-ghost use Rattle.litrs_lines.specs.Steps.{BeginsByLine, IsCopied, IsLiteralStep, IsReadAs, IsStep, held_after, Feeds, Pushes};
+ghost use Rattle.litrs_lines.specs.PrefixSteps.{EndsInLine, HasFront, IsAfterLiteral, IsFront, IsHeldBefore, IsPrefixStep, MayBeCopiedToFront, held_after_prefix};
+ghost use Rattle.litrs_lines.specs.Steps.{BeginsByLine, MayBeCopied, IsLiteralStep, IsReadAs, IsStep, held_after, Feeds, Pushes};
 
 use crate::collector::body::{Open, open_after};
 use litrs::{Literal, ParseError, ParseErrorKind};
@@ -124,7 +124,7 @@ impl Collector {
         ensures utf8 { OnOk result (IsUtf8 (self.old ++ line.now)) }
         ensures held { IfOk result (λ step. self.new ≡ held_after (self.old ++ line.now) step) }
         ensures err { OnErr result (self.new ≡ self.old) }
-        ensures copied { self.old ≡ [] → IsErr result → IsCopied line.now }
+        ensures copied { self.old ≡ [] → IsErr result → MayBeCopied line.now }
     {
         if self.is_empty() {
             self.feed_first(line)
@@ -146,7 +146,7 @@ impl Collector {
             self.new ≡ held_after (self.old ++ line.now) step)) }
         ensures ignored { IfOk result (λ fed. IfNone fed (self.new ≡ self.old)) }
         ensures err { OnErr result (self.new ≡ self.old) }
-        ensures copied { self.old ≡ [] → IsErr result → IsCopied line.now }
+        ensures copied { self.old ≡ [] → IsErr result → MayBeCopied line.now }
     {
         if self.is_empty() && line.is_empty() {
             return Ok(None);
@@ -173,6 +173,7 @@ impl Collector {
         ensures held { IfOk result (λ step.
             self.new ≡ held_after_prefix (self.old ++ line.now) step) }
         ensures err { OnErr result (self.new ≡ self.old) }
+        ensures copied { self.old ≡ [] → IsErr result → MayBeCopiedToFront line.now }
     {
         if self.push(line)? {
             return Ok(PrefixStep::More);
@@ -190,7 +191,7 @@ impl Collector {
         requires { self.old ≡ [] }
         ensures fed { IfOk result (Feeds (self.old ++ line.now) self.new) }
         ensures err { OnErr result (self.new ≡ self.old) }
-        ensures copied { IsErr result → IsCopied line.now }
+        ensures copied { IsErr result → MayBeCopied line.now }
     {
         let alloc = *self.held.allocator();
         match Literal::parse(alloc, line) {
@@ -453,6 +454,7 @@ fn front<'a>(alloc: Global, text: &str, line: &'a str) -> Result<PrefixStep<'a>,
     requires { IsHeldBefore line.now text.now }
     ensures step { IfOk result (IsFront text.now) }
     ensures rest { IfOk result (EndsInLine line.now) }
+    ensures copied { IsErr result → HasFront text.now }
 {
     match parse_prefix(alloc, text) {
         Ok(Some(prefix)) => {

@@ -20,6 +20,8 @@ pub mod MeantEnds
 pub mod MeantPieces
 -- the part that an error marks
 pub mod Marks
+-- errors of memory
+pub mod OutOfMemory
 -- the text before a delimiter
 pub mod Delimiters
 -- pieces that are literals

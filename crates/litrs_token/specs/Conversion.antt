@@ -1,9 +1,6 @@
 -- The tokens that the conversions to literals expect.
-use Rattle.std.specs.Prelude.{◌≡◌, ◌⊎◌, ℕ, List, IsTrue}
-use Rattle.litrs_base.specs.declared.err.ParseError.{ParseError}
+use Rattle.std.specs.Prelude.{◌≡◌, ◌⊎◌, IsTrue}
 use Rattle.litrs_grammar.specs.Bool.{is_bool}
-use Rattle.litrs_grammar.specs.Literal.{literal_parse}
-use Rattle.litrs_grammar.specs.Refused.{IsOutOfMemory}
 use Rattle.litrs_token.specs.declared.kind.TokenKind.{TokenKind}
 use Rattle.litrs_token.specs.declared.kind.TokenKind.TheVariants as token
 use Rattle.litrs_token.specs.declared.tree.TokenTree.TheOpen as tree
@@ -20,7 +17,3 @@ IsWanted wanted (tree.Group g) = ⊥
 IsWanted wanted (tree.Ident i) = (wanted ≡ token.Literal) × IsTrue (is_bool i.text)
 IsWanted wanted (tree.Punct p) = ⊥
 IsWanted wanted (tree.Literal l) = IsWantedKind wanted l.kind
-
--- The text is a literal whose value is allocated, so its parse may run out of memory.
-abbrev pub MayLackMemory : List ℕ → Type 0
-MayLackMemory t = (e : ParseError) × IsOutOfMemory literal_parse t e

@@ -22,6 +22,7 @@ pub use Rattle.litrs_grammar.specs.Bool
 pub use Rattle.litrs_grammar.specs.Literal
 pub use Rattle.litrs_grammar.specs.Quoted
 pub use Rattle.litrs_grammar.specs.Raw
+pub use Rattle.litrs_grammar.specs.Refused
 pub use Rattle.litrs_base.specs.Quotes
 pub use Rattle.litrs_grammar.specs.Suffix
 pub use Rattle.litrs.specs.BoolLiteral

@@ -3,8 +3,9 @@ ghost use Rattle.std.specs.Prelude.{◌≡◌, ℕ, List, Ok, IsOk, IsErr, IsTru
 ghost use Rattle.std.specs.Result.{IsErrAnd};
 ghost use Rattle.std.specs.Str.{chars};
 ghost use Rattle.litrs_base.specs.Refusal.{kind_of};
+ghost use Rattle.litrs_grammar.specs.Refused.{MayLackMemory};
 ghost use Rattle.litrs.specs.LiteralDerivation.{literal_raw};
-ghost use Rattle.litrs_token.specs.Conversion.{IsWantedKind, IsWanted, MayLackMemory};
+ghost use Rattle.litrs_token.specs.Conversion.{IsWantedKind, IsWanted};
 ghost use Rattle.litrs_token.specs.BoolTree.{is_bool_ident, text_of};
 ghost use Rattle.litrs_token.specs.LiteralToken.{IsLiteralToken, SomeLiteral};
 ghost use Rattle.litrs_token.specs.Mismatch.{literal_mismatch, tree_mismatch};
@@ -31,7 +32,7 @@ use std::alloc::{AllocError, Global};
 /// identifier `true` or `false`. All keep the text of the token.
 ///
 /// The kind of the token is checked before anything is allocated. The text of a token is always
-/// a valid literal. The calls that take a token or a tree move its text, so they allocate only the
+/// a valid literal. The calls that own their token or tree move its text, so they allocate only the
 /// value of the literal.
 pub trait FromToken: Drop {
     /// The expected kind.

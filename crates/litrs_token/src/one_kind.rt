@@ -2,7 +2,7 @@
 ghost use Rattle.std.specs.Prelude.{◌≡◌, ◌≢◌, ℕ, List, IfOk, IfErr, IsErr, string_bytes};
 ghost use Rattle.std.specs.Str.{chars};
 ghost use Rattle.litrs_base.specs.Refusal.{kind_of};
-ghost use Rattle.litrs_token.specs.Conversion.{MayLackMemory};
+ghost use Rattle.litrs_grammar.specs.Refused.{MayLackMemory};
 ghost use Rattle.litrs_token.specs.LiteralToken.{IsLiteralToken};
 ghost use Rattle.litrs_token.specs.declared.kind.TokenKind.{TokenKind};
 

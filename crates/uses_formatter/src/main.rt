@@ -29,8 +29,8 @@ fn main(rt: HostRuntime) -> anyhow::Result<()> {
     Ok(())
 }
 
-/// Returns the literal `text` in the standard form, or `None` if `text` is not a literal. Nothing
-/// is allocated then.
+/// Returns the literal `text` in the standard form, or `None` if `text` is not a literal. If it is
+/// not, nothing is allocated.
 pub fn formatted(alloc: Global, text: &str) -> Result<Option<String>, AllocError>
     ensures form { IfOk result (λ form. MatchOption form
         (HasNoDerivation (IsLiteral (chars text.now)))
