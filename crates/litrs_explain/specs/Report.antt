@@ -2,12 +2,12 @@
 use Rattle.std.specs.Prelude.{◌≡◌, ◌≢◌, ◌-◌, ◌^◌, ℕ, min, Bool, true, false, List, [], ◌++◌, Option, Some, None, codes, if◌then◌else◌}
 use Rattle.std.specs.Fmt.{decimal}
 use Rattle.std.specs.Str.{chars}
+use Rattle.std.specs.declared.ops.Range.{Range}
 use Rattle.litrs_base.specs.Kind.{kind_text}
 use Rattle.litrs_base.specs.declared.err.ParseErrorKind.{ParseErrorKind}
 use Rattle.litrs_base.specs.declared.err.ParseErrorKind.TheVariants.{InvalidLiteral}
 use Rattle.litrs_diagnostic.specs.Diagnostic.{Message, error_on, diagnostic_text, colored_text}
 use Rattle.litrs_explain.specs.declared.place.Place.{Place}
-use Rattle.litrs_explain.specs.declared.report.Problem.{Problem}
 use Rattle.litrs_explanation.specs.Explanation.{IsExplanation}
 use Rattle.litrs_grammar.specs.Literal.{Derivation}
 
@@ -36,21 +36,20 @@ note_text false = codes "  no continuation of this text is a literal\n"
 abbrev pub narrowed : ℕ → ℕ
 narrowed n = min n (2 ^ 32 - 1)
 
--- the error in this file, shown in 100 columns
-abbrev pub problem_message : (name : List ℕ) → Problem → Message
-problem_message name p = record (error_on name p.source.now p.marked.start p.marked.end
-    (message_text p.kind))
-    { first_line = narrowed p.place.line; first_column = narrowed p.place.column; width = 100 }
+-- the message on a part of `source`, which begins at `place` in this file, in 100 columns
+abbrev pub problem_message :
+    (name source : List ℕ) → Place → (marked : Range ℕ) → Option ParseErrorKind → Message
+problem_message name source place marked kind =
+    record (error_on name source marked.start marked.end (message_text kind))
+    { first_line = narrowed place.line; first_column = narrowed place.column; width = 100 }
 
 -- The report is the text of this message, perhaps in color, and the line on more text. A line on a
 -- sign may follow if the kind is `InvalidLiteral`.
 pub record IsProblemReport
-    (is_colored : Bool) (name : List ℕ) (p : Problem) (report : List ℕ) : Type 0 where
+    (is_colored : Bool) (m : Message) (kind : Option ParseErrorKind) (is_incomplete : Bool)
+    (report : List ℕ) : Type 0 where
   pub message : List ℕ
   pub sign : List ℕ
-  pub spells : report ≡ message ++ note_text p.is_incomplete ++ sign
-  pub shows :
-      chars message
-      ≡ (if is_colored then colored_text (problem_message name p)
-      else diagnostic_text (problem_message name p))
-  pub no_sign : p.kind ≢ Some InvalidLiteral → sign ≡ []
+  pub spells : report ≡ message ++ note_text is_incomplete ++ sign
+  pub shows : chars message ≡ (if is_colored then colored_text m else diagnostic_text m)
+  pub no_sign : kind ≢ Some InvalidLiteral → sign ≡ []

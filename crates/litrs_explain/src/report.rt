@@ -2,7 +2,7 @@
 ghost use Rattle.std.specs.Prelude.{◌≡◌, ◌≤◌, ◌<◌, ◌↔◌, ◌++◌, IfOk, OnOk, IsTrue, string_bytes};
 ghost use Rattle.litrs_base.specs.CharEnd.{IsCutBy};
 ghost use Rattle.litrs.specs.LiteralDerivation.{derivation};
-ghost use Rattle.litrs_explain.specs.Report.{place_text, message_text, note_text, narrowed, IsLiteralReport, IsProblemReport};
+ghost use Rattle.litrs_explain.specs.Report.{place_text, message_text, note_text, narrowed, problem_message, IsLiteralReport, IsProblemReport};
 
 use crate::error::Error;
 use crate::json::{literal_object, problem_object};
@@ -140,7 +140,9 @@ impl<'a> Reports<'a> {
     /// Returns the lines on an error for a person.
     fn problem_lines(&self, problem: &Problem) -> Result<String, AllocError>
         ensures { IfOk result (λ lines. IsProblemReport self.now.options.color
-            self.now.name.now problem.now (string_bytes lines)) }
+            (problem_message self.now.name.now problem.now.source.now problem.now.place
+            problem.now.marked problem.now.kind)
+            problem.now.kind problem.now.is_incomplete (string_bytes lines)) }
     {
         let marked = problem.marked.start..problem.marked.end;
         let diagnostic = Diagnostic::new(self.name, problem.source, marked, problem.message())
