@@ -46,8 +46,7 @@ pub fn scan_raw_string(
     ensures ok { IfOk result (IsRawCut unicode allow_nul offset input.now) }
     ensures refused { IfErr result (IsRawRefused unicode allow_nul offset input.now) }
 {
-    let allowed = switches(unicode, true, allow_nul);
-    match cut_raw(input, offset, allowed) {
+    match cut_raw(input, offset, switches(unicode, true, allow_nul)) {
         Ok(cut) => Ok(cut),
         Err((span, kind)) => Err(ParseError::in_text(input, span, kind)),
     }

@@ -63,7 +63,8 @@ pub fn unescape_string<C: EscapeContainer>(
         IsQuotedRefused (switches unicode byte_escapes allow_nul) input.now offset e
         ⊎ IsQuotedOutOfMemory (switches unicode byte_escapes allow_nul) input.now offset e) }
 {
-    unescape_string_with(alloc, input, offset, switches(unicode, byte_escapes, allow_nul))
+    let allowed = switches(unicode, byte_escapes, allow_nul);
+    unescape_string_with(alloc, input, offset, allowed)
 }
 
 /// Like [`unescape_string`], with the switches in one value.

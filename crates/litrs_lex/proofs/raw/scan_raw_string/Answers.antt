@@ -15,13 +15,13 @@ refused unicode allow_nul w offset t {r} same is = subst (λ (w : Switches). raw
 
 pub in_text-requires : goal.in_text-requires
 in_text-requires c = span_in_order c.args.unicode c.args.allow_nul c.args.offset c.args.input.now c.in-Err.span c.in-Err.kind c.utf8.input c.requires
-    (refused c.args.unicode c.args.allow_nul _ c.args.offset _ c.switches-allowed.ensures c.in-Err.ensures.refused)
+    (refused c.args.unicode c.args.allow_nul _ c.args.offset _ c.switches.ensures c.in-Err.ensures.refused)
 
 pub returns-in-Err-clause-refused : goal.returns-in-Err-clause-refused
 returns-in-Err-clause-refused c =
     raw_refused c.args.unicode c.args.allow_nul c.args.offset c.args.input.now c.in_text.result c.utf8.input c.requires
-    (refused c.args.unicode c.args.allow_nul _ c.args.offset _ c.switches-allowed.ensures c.in-Err.ensures.refused ∙ ap Some (sym c.in_text.ensures.refusal)) c.in_text.ensures.char_span
+    (refused c.args.unicode c.args.allow_nul _ c.args.offset _ c.switches.ensures c.in-Err.ensures.refused ∙ ap Some (sym c.in_text.ensures.refusal)) c.in_text.ensures.char_span
 
 pub returns-in-Ok-clause-ok : goal.returns-in-Ok-clause-ok
 returns-in-Ok-clause-ok c =
-    subst (λ (w : Switches). IsRawCut w.unicode w.allow_nul c.args.offset c.args.input.now c.in-Ok.cut) c.switches-allowed.ensures c.in-Ok.ensures.ok
+    subst (λ (w : Switches). IsRawCut w.unicode w.allow_nul c.args.offset c.args.input.now c.in-Ok.cut) c.switches.ensures c.in-Ok.ensures.ok

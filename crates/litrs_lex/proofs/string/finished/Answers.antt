@@ -29,4 +29,4 @@ pub returns-in_err-made : goal.returns-in_err-made
 returns-in_err-made g c =
     let p = err_from_is_err_and c.from_residual-in_err-made.result c.from_residual-in_err-made.ensures.1 in
     rw (p.1, p.2) (inr (no_memory_of _ c.args.input.now _ _ _ _ _ c.utf8.input c.requires.at c.requires.read (ap length c.requires.read.read.held) c.in_ok-check_after_quote.ensures.ok c.if-value-place.false
-        (λ nul none. false≢true (c.in_err-made.ensures.succeeds nul none)) c.in_err-made.ensures.error))
+    (λ nul none. false≢true (c.in_err-made.ensures.succeeds nul none)) c.in_err-made.ensures.error))

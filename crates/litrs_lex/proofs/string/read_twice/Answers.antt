@@ -25,7 +25,7 @@ returns-in_err-made-in-Quote g c =
     let body = c.in-Quote.ensures.reached in
     let p = err_from_is_err_and c.from_residual-in_err-made-in-Quote.result c.from_residual-in_err-made-in-Quote.ensures.1 in
     rw (p.1, p.2) (inr (no_memory_of _ c.args.input.now _ _ _ _ _ c.utf8.input c.requires.at body body.read.held c.in_ok-check_after_quote-in-Quote.ensures.ok c.if-counted-place.false
-        (λ nul none. false≢true (c.in_err-made-in-Quote.ensures.succeeds nul none)) c.in_err-made-in-Quote.ensures.error))
+    (λ nul none. false≢true (c.in_err-made-in-Quote.ensures.succeeds nul none)) c.in_err-made-in-Quote.ensures.error))
 
 pub returns-in-Refused : goal.returns-in-Refused
 returns-in-Refused g c = inl c.in-Refused.ensures.reached.1
