@@ -1,5 +1,5 @@
 -- The lines on a literal.
-use Rattle.std.specs.Prelude.{ℕ, ◌≡◌, ◌≢◌, ◌⊎◌, Bool, false, IsTrue, IsFalse, ◌==◌, ◌||◌, nat_le, List, [], ◌∷◌, ◌++◌, Option, Some, None, codes, if◌then◌else◌}
+use Rattle.std.specs.Prelude.{ℕ, ◌≡◌, ◌≢◌, ◌⊎◌, Bool, false, IsTrue, IsFalse, ◌==◌, ◌||◌, ◌≤◌, length, nat_le, List, [], ◌∷◌, ◌++◌, Option, Some, None, codes, if◌then◌else◌}
 use Rattle.std.specs.Fmt.{decimal, digits}
 use Rattle.std.specs.Float.{float_is_finite}
 use Rattle.std.specs.Float.Ieee.{Float, Format}
@@ -28,7 +28,7 @@ use Rattle.litrs_build.specs.Written.{written_char, written_string, written_byte
 use Rattle.litrs_build.specs.CStrings.{written_c_string}
 use Rattle.litrs_value.specs.FloatValue.{float_value}
 use Rattle.litrs_value.specs.Values.{format_of}
-use Rattle.ryu.specs.Plain.{IsPlainNumber}
+use Rattle.ryu.specs.Plain.{IsPlainNumber, IsLaidOutNumber}
 
 -- the name of the kind
 abbrev pub kind_name : Derivation → List ℕ
@@ -94,15 +94,31 @@ abbrev pub IsTypeOf : FloatParts → FloatType → Type 0
 IsTypeOf d F32 = d.suffix ≡ codes "f32"
 IsTypeOf d F64 = d.suffix ≢ codes "f32"
 
--- The float is finite, and the text is a number as in JSON, which is read as the float.
-pub record IsNumber (format : Format) (x : Float) (text : List ℕ) : Type 0 where
+-- A number of this type has an exponent iff it has more digits than this before the period ..
+abbrev pub whole_digits : FloatType → ℕ
+whole_digits F32 = 13
+whole_digits F64 = 16
+
+-- .. or more zeros than this after it.
+abbrev pub leading_zeros : FloatType → ℕ
+leading_zeros F32 = 5
+leading_zeros F64 = 4
+
+-- The float is finite, and the text is a number as in JSON, which is read as the float. It has at
+-- most 25 bytes, an exponent only beyond these numbers of digits and zeros, and no zero at the end
+-- of a fraction, but for `.0`.
+pub record IsNumber
+    (format : Format) (digits_before zeros_after : ℕ) (x : Float) (text : List ℕ) : Type 0 where
   pub finite : IsTrue (float_is_finite x)
   pub plain : IsPlainNumber text
+  pub layout : IsLaidOutNumber digits_before zeros_after text
+  pub short : length text ≤ 25
   pub reads : parse_float format text ≡ Some x
 
 -- The text is the value of the literal in this type.
 abbrev pub IsNumberOf : FloatType → FloatParts → (text : List ℕ) → Type 0
-IsNumberOf ty d text = IsNumber (format_of ty) (float_value (format_of ty) false d) text
+IsNumberOf ty d text = IsNumber (format_of ty) (whole_digits ty) (leading_zeros ty)
+    (float_value (format_of ty) false d) text
 
 -- The value of the literal is too large for this type.
 abbrev pub IsOutOfRange : FloatType → FloatParts → Type 0

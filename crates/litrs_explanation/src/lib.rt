@@ -447,8 +447,10 @@ pub fn float_number<B: Buffer>(
 /// Returns `value` in decimal, or `None` if it is not finite.
 fn number<F: Float>(alloc: Global, value: F, is_finite: bool) -> Result<Option<String>, AllocError>
     requires { is_finite ≡ float_is_finite (F.value value) }
-    ensures number { IfOk result (λ number. MatchOption number (IsFalse (float_is_finite (F.value value)))
-        (λ text. IsNumber F.format (F.value value) (string_bytes text))) }
+    ensures number { IfOk result (λ number.
+        MatchOption number (IsFalse (float_is_finite (F.value value)))
+        (λ text. IsNumber F.format F.WHOLE_DIGITS F.LEADING_ZEROS (F.value value)
+        (string_bytes text))) }
     ensures succeeds { IsFalse (float_is_finite (F.value value)) → IsOk result }
 {
     if !is_finite {

@@ -1,11 +1,23 @@
 -- The lines are those on the value and the parts, and all of them are printable.
 use Rattle.std.proofs.Common.{◌≡◌, ◌++◌, ℕ, List, ap, sym, subst, ◌∙◌, append_assoc, codes, string_bytes}
+use Rattle.std.proofs.lemmas.Result.{err_from_is_err_and}
 use Rattle.litrs.specs.FloatLiteral.{float_parts}
 use Rattle.litrs_explanation.specs.Explanation.{field_of_part, IsFloatFields, float_fields, Shows}
 use Rattle.litrs_explanation.proofs.Appending.{then_appended}
 use Rattle.litrs_explanation.proofs.Explained.{part_is, float_made, float_pieces}
 use Rattle.litrs_explanation.proofs.Printed.{float_shows}
 use Rattle.litrs_explanation.proofs.push_float.Goals as goal
+
+-- what is appended before an error is not stated
+pub returns-in_err-push_fraction : goal.returns-in_err-push_fraction
+returns-in_err-push_fraction g c =
+    let first = c.in_ok-push_texts.ensures in
+    let second = c.in_err-push_fraction.ensures in
+    let failed = err_from_is_err_and c.from_residual-in_err-push_fraction.result c.from_residual-in_err-push_fraction.ensures.1 in (
+      first.0 ++ second.0,
+      second.1 ∙ (ap (λ (t : List ℕ). t ++ second.0) first.1 ∙ append_assoc (string_bytes c.args.out.now) first.0 second.0),
+      rw failed.1 tt,
+    )
 
 pub returns : goal.returns
 returns g c =
