@@ -138,9 +138,9 @@ impl ParseError {
         self.kind().is_final()
     }
 
-    /// Returns `true` if the error is open: it is that of an unterminated string. The closing quote,
-    /// with the hashes of a raw string, then makes the text a literal. It is for `"ab` and `r#"ab"`,
-    /// but not for `'a`, nor for `"\n`, whose error is that of the escape.
+    /// Returns `true` if the error is open: it is that of an unterminated string. The closing
+    /// quote, with the hashes of a raw string, then makes the text a literal. It is for `"ab` and
+    /// `r#"ab"`, but not for `'a`, nor for `"\n`, whose error is that of the escape.
     pub fn is_open(&self) -> bool
         ensures { result ≡ is_open (kind_of self.now) }
     {

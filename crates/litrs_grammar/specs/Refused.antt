@@ -40,8 +40,8 @@ pub record IsRefusedBy
 abbrev pub IsRefused : Parse → List ℕ → ParseError → Type 0
 IsRefused parse t e = IsRefusedBy (IsLiteralOf parse) (IsRefusal parse) t e
 
--- `t` is a literal of the parse whose value is allocated and takes memory, and the error is that the
--- allocation failed.
+-- `t` is a literal of the parse whose value is allocated and takes memory, and the error is that
+-- the allocation failed.
 pub record IsOutOfMemory (parse : Parse) (t : List ℕ) (e : ParseError) : Type 0 where
   pub derivation : Derivation
   pub literal : IsLiteralOf parse t derivation
