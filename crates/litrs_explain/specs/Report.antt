@@ -53,3 +53,9 @@ pub record IsProblemReport
   pub spells : report ≡ message ++ note_text is_incomplete ++ sign
   pub shows : chars message ≡ (if is_colored then colored_text m else diagnostic_text m)
   pub no_sign : kind ≢ Some InvalidLiteral → sign ≡ []
+
+-- The status of a run: 2 if an input was not read to its end, else 1 if there was an error, else 0.
+abbrev pub status_of : (has_errors has_failed : Bool) → ℕ
+status_of has_errors true = 2
+status_of true false = 1
+status_of false false = 0

@@ -1,5 +1,6 @@
 //! The program: arguments in, reports and a status out.
-ghost use Rattle.std.specs.Prelude.{◌≡◌, true, false};
+ghost use Rattle.std.specs.Prelude.{◌≡◌, IfOk};
+ghost use Rattle.litrs_explain.specs.Report.{status_of};
 
 use crate::arguments::{arguments, is_utf8, shown};
 use crate::error::Error;
@@ -25,9 +26,7 @@ const PREFIX_HELP: &str = "help: --prefix finds the literals within lines";
 /// Returns the status of a run: 2 if an input was not read to its end, else 1 if there was an
 /// error in a text, else 0.
 pub(crate) fn status(has_errors: bool, has_failed: bool) -> u8
-    ensures failed { has_failed ≡ true → result ≡ 2 }
-    ensures errors { has_failed ≡ false → has_errors ≡ true → result ≡ 1 }
-    ensures neither { has_failed ≡ false → has_errors ≡ false → result ≡ 0 }
+    ensures { result ≡ status_of has_errors has_failed }
 {
     if has_failed {
         2
@@ -208,7 +207,10 @@ impl<'a> Run<'a> {
 
     /// Writes the reports so far, and returns the status of a run that ended so. If the reader of
     /// the output has closed it, that is the status of what was read.
-    fn finish(&mut self, ended: Result<(), Error>) -> Result<u8, Error> {
+    fn finish(&mut self, ended: Result<(), Error>) -> Result<u8, Error>
+        ensures { IfOk result (λ status.
+            status ≡ status_of self.new.explainer.reports.has_errors self.new.has_failed) }
+    {
         let flushed = self.explainer.reports.output.flush();
         match ended.and(flushed) {
             Err(Error::Output(error)) if error.kind() == ErrorKind::BrokenPipe => {}

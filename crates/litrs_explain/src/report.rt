@@ -126,7 +126,9 @@ impl<'a> Reports<'a> {
     }
 
     /// Adds the report on an error.
-    pub(crate) fn add_problem(&mut self, problem: &Problem) -> Result<(), Error> {
+    pub(crate) fn add_problem(&mut self, problem: &Problem) -> Result<(), Error>
+        ensures { IsTrue self.new.has_errors }
+    {
         self.has_errors = true;
         self.errors = self.errors.saturating_add(1);
         let report = if self.options.json {
