@@ -23,6 +23,7 @@ abbrev pub error_status : BuildError → ℕ
 error_status Memory = OUT_OF_MEMORY
 error_status _ = REFUSED
 
--- The parts of an integer in base ten, without leading zeros and without `_`.
+-- The parts of an integer in base ten, without leading zeros and without groups. `0` before a
+-- suffix that begins with `b`, `o` or `x` has a `_`.
 abbrev pub decimal : ℕ → List ℕ → IntegerParts
 decimal value suffix = built_integer Decimal 0 (written_digits Decimal value) suffix

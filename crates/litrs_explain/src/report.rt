@@ -198,7 +198,7 @@ fn push_literal<B: Buffer>(out: &mut String, literal: &Literal<B>) -> Result<(),
     push_explanation(out, literal)
 }
 
-/// Returns the last line on an error.
+/// Returns the line that says whether more text can complete the literal.
 fn note(is_incomplete: bool) -> &'static str
     ensures { result.now ≡ note_text is_incomplete }
 {

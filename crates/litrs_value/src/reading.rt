@@ -18,8 +18,9 @@ use std::alloc::Global;
 /// the `u8` 97. Every value of a signed type can be read, the least one too. A suffix must be the
 /// name of the type, and a float must be finite.
 ///
-/// It allocates for a string, a byte string and a C string. At a float type it does for a number
-/// with underscores, but for an integer only in base ten from 2^64 on. See [the reference][ref].
+/// It allocates for a `CString`, for a `String` or `Vec<u8>` that is not empty, and if the parse
+/// does. At a float type it does for a number with underscores, but for an integer only in base ten
+/// from 2^64 on. See [the reference][ref].
 ///
 /// [ref]: https://doc.rust-lang.org/reference/expressions/literal-expr.html
 ///
