@@ -13,7 +13,7 @@ use Rattle.litrs_base.proofs.CharEnds.{no_span}
 use Rattle.litrs_base.proofs.Chars.{begins_with-chars}
 use Rattle.litrs_base.proofs.ListTests.{if_false}
 use Rattle.litrs_grammar.specs.Literal.{Derivation, IsLiteral, LiteralKind, integer_literal, float_literal, c_string_literal, string_literal_of, literal_parse, kind_parse}
-use Rattle.litrs_grammar.specs.LiteralRefusals.{StringStart, refused_start, string_start, IsRefusalOfStart, Dispatch, refused_as, parsed_as, begins_float, dispatch, IsRefusalOfDispatch, IsRefusal}
+use Rattle.litrs_grammar.specs.LiteralRefusals.{StringStart, refused_start, string_start, IsRefusalOfStart, Dispatch, refused_as, parsed_as, begins_with_float, dispatch, IsRefusalOfDispatch, IsRefusal}
 use Rattle.litrs_grammar.specs.Refused.{IsRefused, IsRefusedOrOutOfMemory}
 use Rattle.litrs_base.specs.declared.quotes.StringKind.TheVariants.{CString as c_string_kind}
 use Rattle.litrs_base.specs.declared.quotes.StringKind.{StringKind}
@@ -58,17 +58,17 @@ string_row f kind bs (inl quoted) row = sym (ap (λ (g : Front). row_of g bs) qu
 string_row f kind bs (inr raw) row = sym (ap (λ (g : Front). row_of g bs) raw) ∙ row
 
 -- a number is dispatched by its bytes to the kind that its characters name
-number_row : (bs : List ℕ) (v : Bool) → IsUtf8 bs → begins_float bs ≡ v →
+number_row : (bs : List ℕ) (v : Bool) → IsUtf8 bs → begins_with_float bs ≡ v →
     parsed_as (number_kind (chars bs)) ≡ (if v then parsed_as float_literal else parsed_as integer_literal)
 number_row bs true u is = ap parsed_as (kind_by_bytes bs true u is)
 number_row bs false u is = ap parsed_as (kind_by_bytes bs false u is)
 
 pub number_error_at : (bytes text number : List ℕ) (e f : ParseError) → IsUtf8 text → text ≡ bytes → number ≡ bytes →
-    (if begins_float text then parsed_as float_literal else parsed_as integer_literal) ≡ dispatch text →
+    (if begins_with_float text then parsed_as float_literal else parsed_as integer_literal) ≡ dispatch text →
     f ≡ e → IsRefused (kind_parse (number_kind (chars number))) (chars number) e → IsRefusedOrOutOfMemory literal_parse (chars bytes) f
 number_error_at bytes text number e f u same again is copy refused =
     let kind = number_kind (chars text) in
-    kind_error_at kind bytes text e f u same (number_row text (begins_float text) u refl ∙ is) copy
+    kind_error_at kind bytes text e f u same (number_row text (begins_with_float text) u refl ∙ is) copy
     (inl (subst (λ (bs : List ℕ). IsRefused (kind_parse kind) (chars bs) e) same
     (subst (λ (bs : List ℕ). IsRefused (kind_parse (number_kind (chars bs))) (chars bs) e) (again ∙ sym same) refused)))
 

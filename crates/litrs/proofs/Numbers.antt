@@ -14,13 +14,13 @@ use Rattle.litrs_base.specs.Base.{prefix, is_digit}
 use Rattle.litrs_base.specs.Refusal.{Refusal, refusal_of, without_span, spanning, at_byte}
 use Rattle.litrs_base.specs.Text.{is_empty, byte_len, first_passes}
 use Rattle.litrs_base.proofs.Spans.{byte_len-append, byte_len-cons, byte_len_ascii}
-use Rattle.litrs_grammar.specs.Suffix.{is_suffix, is_ascii_symbol, suffix_refusal}
+use Rattle.litrs_grammar.specs.Suffix.{is_suffix, is_ascii_symbol, suffix_kind}
 use Rattle.litrs_grammar.specs.Integer.{IntegerParts, is_e, integer_text, integer_cut, integer_cut_refusal, integer_refusal}
 use Rattle.litrs_grammar.specs.Float.{FloatParts, number_part, fraction_text, float_text, is_period, is_decimal_char, has_wrong_fraction, float_cut, float_refusal}
 use Rattle.litrs_grammar.specs.GoesOn.Float.{FloatGoesOn}
 use Rattle.litrs_grammar.specs.GoesOn.Integer.{IntegerGoesOn}
 use Rattle.litrs_grammar.specs.Literal.{LiteralKind, an_integer, a_float, integer_literal, float_literal, kind_parse, IsLiteralOf, Begins}
-use Rattle.litrs_grammar.specs.LiteralRefusals.{is_float_mark, begins_float, parsed_as, dispatch}
+use Rattle.litrs_grammar.specs.LiteralRefusals.{is_float_mark, begins_with_float, parsed_as, dispatch}
 use Rattle.litrs_grammar.specs.Refused.{IsRefused}
 use Rattle.litrs_grammar.proofs.Laws.Integer.{integer_rows, number_rows, integer_cut-is, cut-spells, refusal_of_digit}
 use Rattle.litrs_grammar.proofs.FloatCuts.{IsCut, CutOf, cut_of, cut_of_text, after_decimals, fraction_stops, number_part-suffix}
@@ -34,7 +34,7 @@ use Rattle.litrs_lex.specs.declared.number.NumberCut.TheVariants as number
 use Rattle.litrs_lex.specs.NumberCut.{number_kind, IsNumberCut}
 use Rattle.litrs_lex.proofs.Dispatch.{dispatch-chars}
 use Rattle.litrs_lex.proofs.IntegerBytes.{digit-chars}
-use Rattle.litrs_lex.proofs.NumberBytes.{begins_float-chars}
+use Rattle.litrs_lex.proofs.NumberBytes.{begins_with_float-chars}
 use Rattle.litrs.specs.MayGainDigits.{is_digits_kind, ends_at, may_gain_digits}
 use Rattle.litrs_lex.specs.Front.{row_of}
 use Rattle.litrs_lex.specs.declared.kind.Front.TheVariants as front
@@ -65,8 +65,8 @@ ends_there start end kind r len same lacks =
     eqb-true end len (subst (λ (e : Refusal). ends_at e.span len ≡ true) (sym at_byte)
     (and_parts (is_digits_kind r.kind) (ends_at r.span len) lacks).1)
 
-suffix_kind : (t : List ℕ) → is_digits_kind (suffix_refusal t) ≡ false
-suffix_kind t = by (first_passes is_ascii_symbol t)
+no_digits_suffix : (t : List ℕ) → is_digits_kind (suffix_kind t) ≡ false
+no_digits_suffix t = by (first_passes is_ascii_symbol t)
   where
     by : (b : Bool) → is_digits_kind (if b then UnexpectedChar else InvalidSuffix) ≡ false
     by true = refl
@@ -116,7 +116,7 @@ integer_lacks d r h = (to, from)
         (integer_row (byte_len (prefix d.base)) (byte_len number) len (is_suffix d.suffix)
         (first_passes is_ascii_digit d.suffix) (first_passes is_e d.suffix)
         (list_any (is_digit d.base) d.main)
-        (suffix_refusal d.suffix) r (suffix_kind d.suffix) h lacks
+        (suffix_kind d.suffix) r (no_digits_suffix d.suffix) h lacks
         ∙ ap byte_len (sym spells))
 
     from : d.suffix ≡ [] → may_gain_digits r len ≡ true
@@ -125,10 +125,10 @@ integer_lacks d r h = (to, from)
         ap byte_len (sym (append-nil number) ∙ ap (λ l. number ++ l) (sym none) ∙ spells) in
         no_digit_row (byte_len (prefix d.base)) (byte_len number) len
         (first_passes is_ascii_digit d.suffix) (list_any (is_digit d.base) d.main)
-        (suffix_refusal d.suffix) r
+        (suffix_kind d.suffix) r
         ((λ j. integer_rows (byte_len (prefix d.base)) (byte_len number) len
         (sym (ap is_suffix none ∙ is_suffix-nil) j) (first_passes is_ascii_digit d.suffix)
-        (suffix_refusal d.suffix)
+        (suffix_kind d.suffix)
         (sym (ap (first_passes is_e) none) j) (list_any (is_digit d.base) d.main)) ∙ h) whole
 
 integer_goes : (t : List ℕ) (r : Refusal) → first_passes is_ascii_digit t ≡ true →
@@ -205,7 +205,7 @@ integer_digit [] (c ∷ rest) stops digit = absurd (both_ways _ stops (digit_dec
 integer_digit (c ∷ i) rest stops digit = digit
 
 -- a text that begins like a float has a period or an exponent
-no_mark : (d : FloatParts) → IsCut d → begins_float (float_text d) ≡ true →
+no_mark : (d : FloatParts) → IsCut d → begins_with_float (float_text d) ≡ true →
     (is_some d.fraction || not (is_empty d.exponent)) ≡ false → ⊥
 no_mark d cut begins none = by d.fraction d.exponent refl refl none
   where
@@ -245,7 +245,7 @@ abbrev digit_rows : FloatParts → Option Refusal
 digit_rows d =
     float_rows (length d.integer) (length d.integer + length (fraction_text d.fraction))
     (length d.integer + length (fraction_text d.fraction) + length d.exponent)
-    (byte_len (float_text d)) (suffix_refusal d.suffix)
+    (byte_len (float_text d)) (suffix_kind d.suffix)
     (has_wrong_fraction (fraction_text d.fraction ++ (d.exponent ++ d.suffix))) (is_some d.fraction)
     (not (is_empty d.exponent)) (list_any is_ascii_digit d.exponent) (is_suffix d.suffix)
 
@@ -259,7 +259,7 @@ rows_of_digit d digit = by (float_text d) digit
     by (c ∷ t) h = rw h refl
 
 float_lacks : (d : FloatParts) (r : Refusal) → IsCut d →
-    first_passes is_ascii_digit (float_text d) ≡ true → begins_float (float_text d) ≡ true →
+    first_passes is_ascii_digit (float_text d) ≡ true → begins_with_float (float_text d) ≡ true →
     cut_rows d ≡ Some r →
     (may_gain_digits r (byte_len (float_text d)) ≡ true) ↔ FloatGoesOn d
 float_lacks d r cut digit begins h = (to, from)
@@ -279,7 +279,7 @@ float_lacks d r cut digit begins h = (to, from)
     wrong : Bool
     wrong = has_wrong_fraction (fraction_text d.fraction ++ (d.exponent ++ d.suffix))
 
-    rows : float_rows i f n len (suffix_refusal d.suffix) wrong (is_some d.fraction)
+    rows : float_rows i f n len (suffix_kind d.suffix) wrong (is_some d.fraction)
         (not (is_empty d.exponent)) (list_any is_ascii_digit d.exponent) (is_suffix d.suffix)
         ≡ Some r
     rows = sym (rows_of_digit d digit) ∙ h
@@ -292,9 +292,9 @@ float_lacks d r cut digit begins h = (to, from)
 
     to : may_gain_digits r len ≡ true → FloatGoesOn d
     to lacks =
-        let row = float_row i f n len (suffix_refusal d.suffix) wrong (is_some d.fraction)
+        let row = float_row i f n len (suffix_kind d.suffix) wrong (is_some d.fraction)
         (not (is_empty d.exponent)) (list_any is_ascii_digit d.exponent) (is_suffix d.suffix) r
-        (suffix_kind d.suffix) rows lacks in
+        (no_digits_suffix d.suffix) rows lacks in
         let none : d.suffix ≡ [] = nothing_after (number_part d) d.suffix
         (number_len d cut ∙ row.1 ∙ ap byte_len (sym (number_part-suffix d))) in
         record {
@@ -310,16 +310,16 @@ float_lacks d r cut digit begins h = (to, from)
         let whole : n ≡ len = sym (number_len d cut)
         ∙ ap byte_len (sym (append-nil (number_part d))
         ∙ ap (λ l. number_part d ++ l) (sym goes.suffix) ∙ number_part-suffix d) in
-        no_exponent_row i f n len (suffix_refusal d.suffix) (is_some d.fraction)
+        no_exponent_row i f n len (suffix_kind d.suffix) (is_some d.fraction)
         (not (is_empty d.exponent)) (list_any is_ascii_digit d.exponent) r (no_mark d cut begins)
-        ((λ j. float_rows i f n len (suffix_refusal d.suffix)
+        ((λ j. float_rows i f n len (suffix_kind d.suffix)
         (sym (ap has_wrong_fraction (alone goes.suffix) ∙ goes.fraction) j) (is_some d.fraction)
         (not (is_empty d.exponent))
         (list_any is_ascii_digit d.exponent) (sym (ap is_suffix goes.suffix ∙ is_suffix-nil) j))
         ∙ rows) whole
 
 float_goes : (t : List ℕ) (r : Refusal) → first_passes is_ascii_digit t ≡ true →
-    begins_float t ≡ true → float_refusal t ≡ Some r →
+    begins_with_float t ≡ true → float_refusal t ≡ Some r →
     (may_gain_digits r (byte_len t) ≡ true) ↔ FloatGoesOn (float_cut t)
 float_goes t r digit begins h =
     subst (λ (d : FloatParts). (may_gain_digits r (byte_len t) ≡ true) ↔ FloatGoesOn d) (sym cut_is)
@@ -335,11 +335,11 @@ float_goes t r digit begins h =
     here = subst (λ (l : List ℕ). (may_gain_digits r (byte_len l) ≡ true) ↔ FloatGoesOn c.parts)
         c.spells
         (float_lacks c.parts r c.cut (ap (first_passes is_ascii_digit) c.spells ∙ digit)
-        (ap begins_float c.spells ∙ begins)
+        (ap begins_with_float c.spells ∙ begins)
         (sym (refusal_of_cut c.parts c.cut) ∙ ap float_refusal c.spells ∙ h))
 
 float_decided : (bs : List ℕ) (e : ParseError) (len : ℕ) (b : Bool) → IsUtf8 bs →
-    first_passes is_ascii_digit (chars bs) ≡ true → begins_float (chars bs) ≡ true →
+    first_passes is_ascii_digit (chars bs) ≡ true → begins_with_float (chars bs) ≡ true →
     IsRefused (kind_parse float_literal) (chars bs) e → len ≡ length bs →
     b ≡ may_gain_digits (refusal_of e) len → IsTrue b ↔ Begins (kind_parse float_literal) (chars bs)
 float_decided bs e len b u digit begins refused is_len is =
@@ -358,8 +358,8 @@ kind_of float = if float then float_literal else integer_literal
 -- a number is parsed as its kind
 pub number_named : (bs : List ℕ) → IsUtf8 bs → row_of front.Number bs ≡ dispatch bs →
     dispatch (chars bs) ≡ parsed_as (number_kind (chars bs))
-number_named bs u is = dispatch-chars bs u ∙ sym is ∙ inside (begins_float bs)
-    ∙ (λ j. parsed_as (kind_of (sym (begins_float-chars bs u) j)))
+number_named bs u is = dispatch-chars bs u ∙ sym is ∙ inside (begins_with_float bs)
+    ∙ (λ j. parsed_as (kind_of (sym (begins_with_float-chars bs u) j)))
   where
     inside : (v : Bool) → (if v then parsed_as float_literal else parsed_as integer_literal)
         ≡ parsed_as (kind_of v)
@@ -371,12 +371,12 @@ pub number_decided : (bs : List ℕ) (e : ParseError) (len : ℕ) (b : Bool) →
     IsRefused (kind_parse (number_kind (chars bs))) (chars bs) e → len ≡ length bs →
     b ≡ may_gain_digits (refusal_of e) len →
     IsTrue b ↔ Begins (kind_parse (number_kind (chars bs))) (chars bs)
-number_decided bs e len b u digit refused is_len is = by (begins_float (chars bs)) refl
+number_decided bs e len b u digit refused is_len is = by (begins_with_float (chars bs)) refl
   where
     front : first_passes is_ascii_digit (chars bs) ≡ true
     front = digit-chars bs u ∙ digit
 
-    by : (v : Bool) → begins_float (chars bs) ≡ v →
+    by : (v : Bool) → begins_with_float (chars bs) ≡ v →
         IsTrue b ↔ Begins (kind_parse (number_kind (chars bs))) (chars bs)
     by true float = rw (float) (float_decided bs e len b u front float
         (subst (λ (v : Bool). IsRefused (kind_parse (kind_of v)) (chars bs) e) float refused)

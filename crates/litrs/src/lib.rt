@@ -47,7 +47,7 @@
 //!
 //! # Prompts
 //!
-//! [`goes_on`] returns `true` if a text begins a literal. A prompt accepts a line that is a
+//! [`goes_on`] returns `true` if a text begins a literal. A reader accepts a text that is a
 //! literal, asks for more if some longer text is one, and otherwise shows the error:
 //!
 //! ```
@@ -55,8 +55,8 @@
 //! use litrs::{Literal, ParseError, goes_on};
 //! use std::alloc::Global;
 //!
-//! /// Returns the literal of a line, or `None` if more lines are needed.
-//! fn line(alloc: Global, text: &str) -> Result<Option<Literal<&str>>, ParseError> {
+//! /// Returns the literal that `text` is, or `None` if more text can complete it.
+//! fn complete(alloc: Global, text: &str) -> Result<Option<Literal<&str>>, ParseError> {
 //!     match Literal::parse(alloc, text) {
 //!         Ok(lit) => Ok(Some(lit)),
 //!         Err(e) if e.kind() != OutOfMemory && goes_on(text) => Ok(None),
@@ -65,6 +65,8 @@
 //! }
 //! // For 'a' it returns Ok(Some(_)), for "a Ok(None), and for "\q" an error: UnknownEscape.
 //! ```
+//!
+//! A prompt for lines uses the crate `litrs_lines`, since no further line completes `'a`.
 #![tactic(auto)]
 
 ghost use Rattle.std.specs.Prelude.{◌≡◌, false, nat_eq, IsTrue, IsOk, IfOk, IfErr, Some};
@@ -251,9 +253,7 @@ impl<B: Text> Literal<B> {
             Literal::CString(lit) => lit.raw_input(),
         }
     }
-}
 
-impl<B: Text> Literal<B> {
     /// Clones the literal. Over `&str` this does not allocate and always succeeds, unless the
     /// literal is a C string or has a quoted body with a backslash, whose value is copied.
     ///

@@ -176,7 +176,7 @@ fn char_len(first: u8) -> usize
     }
 }
 
-/// Returns the first `len` bytes, or all if there are fewer.
+/// Returns the first `count` bytes, or all if there are fewer.
 fn first_bytes(bytes: &[u8], count: usize) -> &[u8]
     ensures { result.now ≡ take count bytes.now }
 {

@@ -1,4 +1,4 @@
-//! Which characters are shown as they are.
+//! Printable characters, which are shown as they are.
 ghost use Rattle.std.specs.Prelude.{◌≡◌, ◌&&◌, nat_le};
 ghost use Rattle.litrs_build.specs.Printable.{is_printable};
 

@@ -28,8 +28,9 @@ pub enum Escapes {
     /// the case of the style, and in `\u{..}` without `_` and leading zeros.
     Respelled,
     /// A character is escaped as [`char`](crate::char), [`byte`](crate::byte) or
-    /// [`string`](crate::string) escapes it. An LF that `lines` keeps is not escaped, but a blank
-    /// or a combining character after a kept continuation is.
+    /// [`string`](crate::string) escapes it. An LF that `lines` keeps is not escaped, but a
+    /// combining character after it is. So are a combining character and a blank after a kept
+    /// continuation.
     Needed,
 }
 

@@ -9,8 +9,9 @@
     ['x', '+', '=', '1u8']
 
 A text is a str, or bytes, a bytearray or a memoryview of bytes in UTF-8. Spans and lengths count
-characters of a str, and bytes of the others. Any other argument raises TypeError, and a str that
-UTF-8 cannot encode, which has a lone surrogate, UnicodeEncodeError.
+characters of a str, and bytes of the others. Any other argument raises TypeError, a memoryview that
+was released ValueError, and a str with a lone surrogate, which UTF-8 cannot encode,
+UnicodeEncodeError.
 
 The library is the file that LITRS_LIBRARY names, the one that was installed with this module, or
 the loader's.
@@ -83,7 +84,7 @@ _CALLS = {
 
 def _load():
     """Returns the calls of the library, by their names without `litrs_`."""
-    installed = pathlib.Path(__file__).resolve().parents[2] / "lib/liblitrs.so.1"
+    installed = pathlib.Path(__file__).resolve().parent.parent.parent / "lib/liblitrs.so.1"
     path = os.environ.get("LITRS_LIBRARY") or (installed if installed.exists() else installed.name)
     library, found = ctypes.CDLL(str(path)), {}
     for name, (result, parameters) in _CALLS.items():
@@ -205,8 +206,9 @@ def parse(text: _Text) -> Literal:
 
 def parse_prefix(text: _Text) -> Optional[Tuple[Literal, int]]:
     """Parses the literal at the front of a text. Returns it with its length, or None if no literal
-    begins there, for example before a name or a blank. Raises the errors of `parse` if a malformed
-    literal begins there."""
+    begins there, for example before a name or a blank. Raises ParseError if a malformed literal
+    begins there, UnicodeDecodeError if any part of the bytes is not UTF-8, even after the literal,
+    and MemoryError if there is no memory for the value."""
     data = _data(text)
     prefix = _calls["parse_prefix"](data, len(data))
     if prefix.answer.status == _NO_PREFIX:

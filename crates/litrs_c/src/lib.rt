@@ -35,9 +35,10 @@ mod static_texts;
 mod tokens;
 mod write;
 
-/// The text is a literal.
+/// The text, or its front, is a literal, or a literal was written.
 pub const LITERAL: u32 = 0;
-/// The text is not a literal.
+/// The text is not a literal, the literal at its front is malformed, or no literal to write has the
+/// suffix.
 pub const REFUSED: u32 = 1;
 /// The bytes are not UTF-8.
 pub const NOT_UTF8: u32 = 2;

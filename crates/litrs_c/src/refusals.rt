@@ -55,7 +55,8 @@ fn span_place(span: Option<Range<usize>>) -> Place
     }
 }
 
-/// Returns the number of the kind in `enum litrs_error`.
+/// Returns the number of the kind in `enum litrs_error`. `OutOfMemory` is a status and not in it:
+/// its number is not written.
 fn error_code(kind: ParseErrorKind) -> u32
     ensures { result ≡ error_code kind }
 {

@@ -18,7 +18,8 @@ use std::alloc::Global;
 use std::str;
 
 /// Writes the string with the value `value` and the suffix `suffix`, which may be empty, to `room`,
-/// as much as fits: for example `"a\nb"`. The status is an error if `suffix` is not a suffix. The
+/// as much as fits: for example `"a\nb"`. The status is `REFUSED` if `suffix` is not a suffix,
+/// `NOT_UTF8` if `value` or `suffix` is not UTF-8, and `OUT_OF_MEMORY` if an allocation fails. The
 /// rest of `room` is unchanged, and all of it if nothing is written.
 #[unsafe(no_mangle)]
 pub extern "C" fn litrs_write_string(
@@ -82,7 +83,7 @@ pub extern "C" fn litrs_write_bytes(
 }
 
 /// Writes the integer with the value `value_low` plus 2^64 times `value_high` in base ten, for
-/// example `255u8`. The status is an error if no such integer has the suffix. Otherwise, it is like
+/// example `255u8`. The status is `REFUSED` if no such integer has the suffix. Otherwise, it is like
 /// [`litrs_write_string`].
 #[unsafe(no_mangle)]
 pub extern "C" fn litrs_write_integer(

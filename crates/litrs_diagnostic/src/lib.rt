@@ -28,8 +28,8 @@
 //! ```
 //!
 //! Only LFs and printable characters are written, and in color also the escape codes of a terminal.
-//! In the source, the name and the message a tab is shown as four spaces, and every other character
-//! that is not printable by its number, for example `\u{202e}`. If a line has more columns than the
+//! In all texts a tab is shown as four spaces, and every other character that is not printable by
+//! its number, for example `\u{202e}`. If a line has more columns than the
 //! width, the part around the range is shown, and `...` in place of the rest. The source is read up
 //! to the end of the last line that is shown. [`shown_refusal`] shows the error of a parse. A
 //! [`Label`] marks a further range of the text, and [`shown_in_color`] writes the message for a

@@ -10,8 +10,8 @@ use Rattle.litrs_base.specs.declared.err.ParseErrorKind.TheVariants as kind
 use Rattle.litrs_base.specs.Refusal.{Refusal, without_span, at_byte}
 use Rattle.litrs_base.specs.Text.{begins_with, byte_len}
 use Rattle.litrs_base.proofs.Spans.{byte_len-append}
-use Rattle.litrs_grammar.specs.Suffix.{is_suffix, suffix_refusal}
-use Rattle.litrs_grammar.specs.Raw.{raw_closing, hashes, occurs, length_before, is_raw_char, raw_char_refusal, raw_body_refusal}
+use Rattle.litrs_grammar.specs.Suffix.{is_suffix, suffix_kind}
+use Rattle.litrs_grammar.specs.Raw.{raw_closing, hashes, occurs, length_before, is_raw_char, raw_char_kind, raw_body_refusal}
 use Rattle.litrs_grammar.specs.Laws.Raw.{NoClosingIn, RawScansGoOn, RawRefusalsGoOn, RawBodiesEndAtClosings}
 use Rattle.litrs_grammar.proofs.RawCuts.{closing_before_closing}
 
@@ -39,9 +39,9 @@ ltb_after k a b = grind (arith, nat_tests)
 -- the rows of a body, by what they look at
 abbrev body_rows : Bool → ℕ → ℕ → Bool → List ℕ → ℕ → Option Refusal
 body_rows refused place c closed suffix end =
-    if refused then Some (at_byte place (raw_char_refusal c))
+    if refused then Some (at_byte place (raw_char_kind c))
     else if not closed then Some (without_span kind.UnterminatedRawString)
-    else if not (is_suffix suffix) then Some (at_byte end (suffix_refusal suffix))
+    else if not (is_suffix suffix) then Some (at_byte end (suffix_kind suffix))
     else None
 
 same_rows : (b d : Bool) (place at_byte c e : ℕ) (closed still : Bool) (suffix after : List ℕ) (end stop : ℕ) → b ≡ d → place ≡ at_byte → c ≡ e → closed ≡ still →

@@ -5,7 +5,7 @@ use Rattle.std.proofs.lemmas.Bool.{true≢false}
 use Rattle.litrs_base.specs.declared.err.ParseErrorKind.{ParseErrorKind}
 use Rattle.litrs_base.specs.declared.err.ParseErrorKind.TheVariants.{Empty, InvalidLiteral, OutOfMemory, UnexpectedChar, InvalidSuffix}
 use Rattle.litrs_base.specs.Refusal.{Refusal, without_span, shifted}
-use Rattle.litrs_grammar.specs.Suffix.{is_ascii_symbol, suffix_refusal}
+use Rattle.litrs_grammar.specs.Suffix.{is_ascii_symbol, suffix_kind}
 use Rattle.litrs_base.specs.Text.{first_passes}
 use Rattle.litrs_base.specs.declared.quotes.StringKind.{StringKind}
 use Rattle.litrs_base.specs.declared.quotes.StringKind.TheVariants.{String as string_kind, ByteString as byte_string_kind, CString as c_string_kind}
@@ -19,7 +19,7 @@ use Rattle.litrs_grammar.specs.Float.{float_refusal}
 use Rattle.litrs_grammar.specs.Escape.{hex_refusal, inner_refusal, unicode_refusal, escape_refusal}
 use Rattle.litrs_grammar.specs.CharByte.{unterminated_kind, empty_kind, overlong_kind, start_refusal, closing_refusal, char_item_refusal, char_kind_refusal}
 use Rattle.litrs_grammar.specs.Quoted.{backslash_refusal, item_refusal, IsQuotedRefusal}
-use Rattle.litrs_grammar.specs.Raw.{raw_char_refusal, raw_body_refusal, raw_refusal, raw_literal_refusal}
+use Rattle.litrs_grammar.specs.Raw.{raw_char_kind, raw_body_refusal, raw_refusal, raw_literal_refusal}
 use Rattle.litrs_grammar.specs.Literal.{LiteralKind, bool_literal, integer_literal, float_literal, char_literal, byte_literal, string_literal, byte_string_literal, c_string_literal, literal_parse, kind_parse}
 use Rattle.litrs_grammar.specs.LiteralRefusals.{StringStart, refused_start, quoted_start, raw_start, string_start, string_start_refusal, IsRefusalOfStart, IsKindRefusal, Dispatch, refused_as, parsed_as, dispatch, IsRefusalOfDispatch}
 use Rattle.litrs_grammar.specs.Laws.Literal.{NoRefusalIsOfMemory}
@@ -44,7 +44,7 @@ fine_kind_if : (b : Bool) (x y : ParseErrorKind) → is_of_text x ≡ true → i
 fine_kind_if true x y f g = f
 fine_kind_if false x y f g = g
 
-fine_suffix : (t : List ℕ) → is_of_text (suffix_refusal t) ≡ true
+fine_suffix : (t : List ℕ) → is_of_text (suffix_kind t) ≡ true
 fine_suffix t = fine_kind_if (first_passes is_ascii_symbol t) UnexpectedChar InvalidSuffix refl refl
 
 fine_moved : (n : ℕ) (o : Option Refusal) → is_fine o ≡ true → is_fine (option_map (shifted n) o) ≡ true
@@ -123,7 +123,7 @@ fine_float t = search (fine_number, fine_if, fine_suffix)
 
 -- Raw strings
 
-fine_raw_char : (c : ℕ) → is_of_text (raw_char_refusal c) ≡ true
+fine_raw_char : (c : ℕ) → is_of_text (raw_char_kind c) ≡ true
 fine_raw_char c = search fine_kind_if
 
 fine_raw_body : (unicode allow_nul : Bool) (n start : ℕ) (t : List ℕ) → is_fine (raw_body_refusal unicode allow_nul n start t) ≡ true

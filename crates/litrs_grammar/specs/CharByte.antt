@@ -10,7 +10,7 @@ use Rattle.litrs_base.specs.declared.err.ParseErrorKind.{ParseErrorKind}
 use Rattle.litrs_base.specs.declared.err.ParseErrorKind.TheVariants.{Empty, DoesNotStartWithQuote, InvalidByteLiteralStart, UnterminatedCharLiteral, UnterminatedByteLiteral, UnescapedSingleQuote, EmptyCharLiteral, EmptyByteLiteral, UnescapedSpecialWhitespace, NonAsciiInByteLiteral, OverlongCharLiteral, OverlongByteLiteral}
 use Rattle.litrs_base.specs.Characters.{line_feed, tab, carriage_return, single_quote, backslash, is_ascii}
 use Rattle.litrs_grammar.specs.Escape.{Escape, escape_text, escape_value, is_escape, escape_at_front, escape_refusal}
-use Rattle.litrs_grammar.specs.Suffix.{is_suffix, suffix_refusal}
+use Rattle.litrs_grammar.specs.Suffix.{is_suffix, suffix_kind}
 use Rattle.litrs_base.specs.Text.{byte_len, first_passes, begins_with}
 
 -- The item between the quotes: one plain character, or one escape.
@@ -91,7 +91,7 @@ closing_refusal kind place t =
     if not (list_any (λ c. c == single_quote) t) then Some (without_span (unterminated_kind kind))
     else if not (first_passes (λ c. c == single_quote) t)
     then Some (without_span (overlong_kind kind))
-    else if not (is_suffix (drop 1 t)) then Some (at_byte (place + 1) (suffix_refusal (drop 1 t)))
+    else if not (is_suffix (drop 1 t)) then Some (at_byte (place + 1) (suffix_kind (drop 1 t)))
     else None
 
 -- The refusal by the text after the front. Spans count from the end of the front.

@@ -7,7 +7,7 @@ use Rattle.litrs_base.specs.declared.err.ParseErrorKind.TheVariants.{Empty, Does
 use Rattle.litrs_base.specs.Refusal.{Refusal, without_span, spanning, at_byte}
 use Rattle.litrs_base.specs.Characters.{period, underscore, plus, minus}
 use Rattle.litrs_base.specs.Text.{is_empty, byte_len, first_passes}
-use Rattle.litrs_grammar.specs.Suffix.{is_suffix, suffix_refusal}
+use Rattle.litrs_grammar.specs.Suffix.{is_suffix, suffix_kind}
 use Rattle.litrs_base.specs.declared.integer.IntegerBase.TheVariants.{Decimal}
 use Rattle.litrs_base.specs.Base.{is_digit_or_underscore}
 use Rattle.litrs_grammar.specs.Integer.{is_e}
@@ -140,7 +140,7 @@ float_cut_refusal d =
     else if has_exponent && not (list_any is_ascii_digit d.exponent)
     then Some (spanning exponent suffix NoExponentDigits)
     else if not (is_suffix d.suffix)
-    then Some (spanning suffix (byte_len (float_text d)) (suffix_refusal d.suffix))
+    then Some (spanning suffix (byte_len (float_text d)) (suffix_kind d.suffix))
     else if not (is_some d.fraction || has_exponent) then Some (without_span UnexpectedIntegerLit)
     else None
 

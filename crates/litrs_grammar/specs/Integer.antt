@@ -8,7 +8,7 @@ use Rattle.litrs_base.specs.declared.err.ParseErrorKind.TheVariants.{Empty, Does
 use Rattle.litrs_base.specs.Refusal.{Refusal, without_span, spanning, at_byte}
 use Rattle.litrs_base.specs.Characters.{letter_e, capital_e}
 use Rattle.litrs_base.specs.Text.{is_empty, byte_len, first_passes, begins_with}
-use Rattle.litrs_grammar.specs.Suffix.{is_suffix, suffix_refusal}
+use Rattle.litrs_grammar.specs.Suffix.{is_suffix, suffix_kind}
 use Rattle.litrs_base.specs.Base.{prefix, base_value, is_digit, is_digit_or_underscore}
 use Rattle.litrs_base.specs.Numeral.{numeral}
 
@@ -89,7 +89,7 @@ integer_cut_refusal d =
     let end = byte_len (prefix d.base ++ d.main) in
     if not (is_suffix d.suffix) then
     (if first_passes is_ascii_digit d.suffix then Some (at_byte end InvalidDigit)
-    else Some (spanning end (byte_len (integer_text d)) (suffix_refusal d.suffix)))
+    else Some (spanning end (byte_len (integer_text d)) (suffix_kind d.suffix)))
     else if first_passes is_e d.suffix then Some (at_byte end IntegerSuffixStartingWithE)
     else if not (list_any (is_digit d.base) d.main) then Some (spanning start end NoDigits)
     else None

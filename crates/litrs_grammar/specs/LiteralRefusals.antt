@@ -72,8 +72,8 @@ abbrev pub is_float_mark : ℕ → Bool
 is_float_mark c = (c == period) || is_e c
 
 -- `true` iff such a mark follows the leading run of decimal digits and underscores.
-abbrev pub begins_float : List ℕ → Bool
-begins_float t = first_passes is_float_mark (drop (prefix_len (is_digit_or_underscore Decimal) t) t)
+abbrev pub begins_with_float : List ℕ → Bool
+begins_with_float t = first_passes is_float_mark (drop (prefix_len (is_digit_or_underscore Decimal) t) t)
 
 -- The start of a text decides as which kind it is parsed, and the table of that kind gives its
 -- refusal. If it starts like no kind, the start alone decides the refusal.
@@ -87,7 +87,7 @@ dispatch t =
     if is_empty t then refused_as (without_span Empty)
     else if is_bool t then parsed_as bool_literal
     else if first_passes is_ascii_digit t
-    then (if begins_float t then parsed_as float_literal else parsed_as integer_literal)
+    then (if begins_with_float t then parsed_as float_literal else parsed_as integer_literal)
     else if begins_with (codes "'") t then parsed_as char_literal
     else if begins_with (codes "\"") t || begins_with (codes "r") t then parsed_as string_literal
     else if begins_with (codes "b'") t then parsed_as byte_literal

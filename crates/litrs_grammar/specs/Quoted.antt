@@ -10,7 +10,7 @@ use Rattle.litrs_base.specs.Characters.{line_feed, carriage_return, double_quote
 use Rattle.litrs_base.specs.declared.quotes.Switches.{Switches}
 use Rattle.litrs_base.specs.declared.quotes.StringKind.{StringKind}
 use Rattle.litrs_grammar.specs.Escape.{Escape, escape_text, escape_value, value_bytes, allows_value, is_escape, escape_refusal}
-use Rattle.litrs_grammar.specs.Suffix.{is_suffix, suffix_refusal}
+use Rattle.litrs_grammar.specs.Suffix.{is_suffix, suffix_kind}
 use Rattle.litrs_base.specs.Text.{is_empty, byte_len, first_passes}
 
 -- An item of a body: a plain character, an escape, or a continuation. A continuation is a
@@ -133,7 +133,7 @@ item_refusal w (c ∷ t) =
     else if c == carriage_return then Some (at_byte 0 CarriageReturn)
     else if not (allows_value w c) then Some (at_byte 0 NulByte)
     else if not (fits_charset w.unicode c) then Some (at_byte 0 NonAsciiInByteLiteral)
-    else if (c == double_quote) && not (is_suffix t) then Some (at_byte 1 (suffix_refusal t))
+    else if (c == double_quote) && not (is_suffix t) then Some (at_byte 1 (suffix_kind t))
     else None
 
 -- `t` is refused as a quoted literal after `front`, as the rest decides. The span moves by the

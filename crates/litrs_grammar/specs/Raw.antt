@@ -11,7 +11,7 @@ use Rattle.litrs_base.specs.Characters.{double_quote, hash, carriage_return, nul
 use Rattle.litrs_base.specs.Text.{is_empty, byte_len, first_passes, begins_with}
 use Rattle.litrs_base.specs.declared.quotes.StringKind.{StringKind}
 use Rattle.litrs_base.specs.Quotes.{switches_of, raw_front}
-use Rattle.litrs_grammar.specs.Suffix.{is_suffix, suffix_refusal}
+use Rattle.litrs_grammar.specs.Suffix.{is_suffix, suffix_kind}
 
 -- `"`
 abbrev pub is_quote : ℕ → Bool
@@ -101,8 +101,8 @@ length_before part [] = 0
 length_before part (c ∷ cs) = if begins_with part (c ∷ cs) then 0 else 1 + length_before part cs
 
 -- The error kind of a character that is not allowed in a raw body.
-abbrev pub raw_char_refusal : ℕ → ParseErrorKind
-raw_char_refusal c =
+abbrev pub raw_char_kind : ℕ → ParseErrorKind
+raw_char_kind c =
     if c == carriage_return then CarriageReturn
     else if is_nul c then NulByte
     else NonAsciiInByteLiteral
@@ -116,10 +116,10 @@ raw_body_refusal unicode allow_nul n start t =
     let suffix = drop (length body + (1 + n)) t in
     if nat_lt allowed (length body)
     then Some (at_byte (start + byte_len (take allowed t))
-    (raw_char_refusal (slice_index t allowed)))
+    (raw_char_kind (slice_index t allowed)))
     else if not (occurs (raw_closing n) t) then Some (without_span UnterminatedRawString)
     else if not (is_suffix suffix)
-    then Some (at_byte (start + (byte_len body + (1 + n))) (suffix_refusal suffix))
+    then Some (at_byte (start + (byte_len body + (1 + n))) (suffix_kind suffix))
     else None
 
 -- The refusal by the text after a front, which starts at `start`, or `None` if it completes a raw

@@ -25,5 +25,5 @@ is_ascii_symbol c = is_ascii c && not (is_ascii_alphabetic c || (c == underscore
 
 -- The error kind of a text that is not a suffix, by its first character: ASCII but neither a letter
 -- nor `_`, or any other.
-abbrev pub suffix_refusal : List ℕ → ParseErrorKind
-suffix_refusal t = if first_passes is_ascii_symbol t then UnexpectedChar else InvalidSuffix
+abbrev pub suffix_kind : List ℕ → ParseErrorKind
+suffix_kind t = if first_passes is_ascii_symbol t then UnexpectedChar else InvalidSuffix

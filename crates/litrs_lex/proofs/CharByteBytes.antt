@@ -26,7 +26,7 @@ use Rattle.litrs_base.specs.declared.quotes.CharKind.{CharKind}
 use Rattle.litrs_base.specs.declared.quotes.CharKind.TheVariants.{Char as char_kind, Byte as byte_kind}
 use Rattle.litrs_base.specs.Quotes.{char_front, char_switches_of}
 use Rattle.litrs_grammar.specs.Escape.{Escape, simple_escape, hex_escape, unicode_escape, is_escape, is_simple, escape_text, escape_value, escape_refusal}
-use Rattle.litrs_grammar.specs.Suffix.{is_suffix, suffix_refusal}
+use Rattle.litrs_grammar.specs.Suffix.{is_suffix, suffix_kind}
 use Rattle.litrs_grammar.specs.CharByte.{CharItem, plain_char, escaped_char, char_item_text, char_value, is_special_whitespace, allows_char, is_char_item, CharParts, IsCharLiteral, unterminated_kind, empty_kind, overlong_kind, start_refusal, closing_refusal, char_item_refusal, char_kind_refusal}
 use Rattle.litrs_grammar.specs.Literal.{kind_parse, LiteralKind, char_literal, byte_literal}
 use Rattle.litrs_grammar.specs.LiteralRefusals.{IsKindRefusal}
@@ -264,7 +264,7 @@ quote_chars : (bs : List ℕ) → first_passes (λ c. c == 39) bs ≡ true → c
 quote_chars bs quote = front_chars bs 39 (omega arith) (quote_begins bs quote)
 
 pub suffix_row : (kind : CharKind) (place : ℕ) (bs : List ℕ) → first_passes (λ c. c == 39) bs ≡ true → is_suffix (chars (drop 1 bs)) ≡ false →
-    closing_refusal kind place (chars bs) ≡ Some (at_byte (place + 1) (suffix_refusal (chars (drop 1 bs))))
+    closing_refusal kind place (chars bs) ≡ Some (at_byte (place + 1) (suffix_kind (chars (drop 1 bs))))
 suffix_row kind place bs quote none = ap (closing_refusal kind place) (quote_chars bs quote) ∙ if_true _ _ _ (ap not none)
 
 pub closed_row : (kind : CharKind) (place : ℕ) (bs : List ℕ) → first_passes (λ c. c == 39) bs ≡ true → is_suffix (chars (drop 1 bs)) ≡ true →

@@ -9,7 +9,7 @@ use Rattle.litrs_base.proofs.Chars.{chars_empty, begins_with-chars, is_text-char
 use Rattle.litrs_grammar.specs.Bool.{is_bool}
 use Rattle.litrs_grammar.specs.LiteralRefusals.{dispatch}
 use Rattle.litrs_lex.proofs.IntegerBytes.{digit-chars}
-use Rattle.litrs_lex.proofs.NumberBytes.{begins_float-chars}
+use Rattle.litrs_lex.proofs.NumberBytes.{begins_with_float-chars}
 
 pub is_empty-chars : (bs : List ℕ) → IsUtf8 bs → is_empty (chars bs) ≡ is_empty bs
 is_empty-chars [] u = ap is_empty chars-nil
@@ -24,7 +24,7 @@ dispatch-chars bs u = rw (
   is_empty-chars bs u,
   is_bool-chars bs u,
   digit-chars bs u,
-  begins_float-chars bs u,
+  begins_with_float-chars bs u,
   begins_with-chars (codes "'") bs refl u,
   begins_with-chars (codes "\"") bs refl u,
   begins_with-chars (codes "r") bs refl u,

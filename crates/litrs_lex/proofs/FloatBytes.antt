@@ -16,7 +16,7 @@ use Rattle.litrs_base.specs.declared.err.ParseErrorKind.{ParseErrorKind}
 use Rattle.litrs_base.specs.declared.err.ParseErrorKind.TheVariants.{Empty, DoesNotStartWithDigit, UnexpectedChar, NoExponentDigits, UnexpectedIntegerLit}
 use Rattle.litrs_base.specs.Refusal.{Refusal, refusal, without_span, spanning, at_byte}
 use Rattle.litrs_base.specs.Text.{is_empty, byte_len, first_passes}
-use Rattle.litrs_grammar.specs.Suffix.{is_suffix, suffix_refusal}
+use Rattle.litrs_grammar.specs.Suffix.{is_suffix, suffix_kind}
 use Rattle.litrs_grammar.specs.Integer.{is_e}
 use Rattle.litrs_grammar.specs.Float.{FloatParts, fraction_text, number_part, float_text, is_decimal_char, is_period, is_sign, fraction_of, exponent_of, text_after, float_cut, has_wrong_fraction, float_cut_refusal, float_refusal}
 use Rattle.litrs_lex.specs.declared.float.FloatCut.{FloatCut}
@@ -305,7 +305,7 @@ wrong_fraction_at cut bs d u f p =
     ap has_wrong_fraction (sym spelled) ∙ (wrong_fraction-chars (t ++ (d.exponent ++ d.suffix)) utf8 ∙ ap has_wrong_fraction (sym left))
 
 pub refusal_of_cut : (cut : FloatCut) (bs : List ℕ) → IsUtf8 bs → IsPartsCut cut bs → float_cut_refusal (float_cut (chars bs)) ≡
-    rows_by cut.end_integer cut.end_fraction cut.end_number (length bs) (suffix_refusal (chars (drop cut.end_number bs)))
+    rows_by cut.end_integer cut.end_fraction cut.end_number (length bs) (suffix_kind (chars (drop cut.end_number bs)))
     (has_wrong_fraction (drop cut.end_integer bs))
     (not (is_empty (slice_range bs cut.end_fraction cut.end_number)) && not (list_any is_ascii_digit (slice_range bs cut.end_fraction cut.end_number)))
     (is_suffix (chars (drop cut.end_number bs))) (eqb cut.end_integer cut.end_number)
@@ -325,14 +325,14 @@ refusal_of_cut cut bs u h =
     ap (λ (x : List ℕ). not (is_empty x) && not (list_any is_ascii_digit x)) (sym (exponent_at cut bs d f p)) in
     let none = no_parts d.fraction d.exponent cut.end_integer cut.end_fraction cut.end_number p.fraction p.exponent in
     ap float_cut_refusal (float_cut-chars bs c u)
-    ∙ (λ j. rows_by (p.integer j) (fraction j) (number j) (len j) (suffix_refusal (suffix j)) (wrong j) (digit j) (is_suffix (suffix j)) (none j))
+    ∙ (λ j. rows_by (p.integer j) (fraction j) (number j) (len j) (suffix_kind (suffix j)) (wrong j) (digit j) (is_suffix (suffix j)) (none j))
 
 -- the first row needs no more than the fraction
 wrong_row : (d : FloatParts) → has_wrong_fraction (fraction_text d.fraction ++ (d.exponent ++ d.suffix)) ≡ true →
     float_cut_refusal d ≡ Some (at_byte (length d.integer + 1) UnexpectedChar)
 wrong_row d wrong =
     row_wrong_fraction (length d.integer) (length d.integer + length (fraction_text d.fraction)) (length d.integer + length (fraction_text d.fraction) + length d.exponent)
-    (byte_len (float_text d)) (suffix_refusal d.suffix) (has_wrong_fraction (fraction_text d.fraction ++ (d.exponent ++ d.suffix)))
+    (byte_len (float_text d)) (suffix_kind d.suffix) (has_wrong_fraction (fraction_text d.fraction ++ (d.exponent ++ d.suffix)))
     (not (is_empty d.exponent) && not (list_any is_ascii_digit d.exponent)) (is_suffix d.suffix) (not (is_some d.fraction || not (is_empty d.exponent))) wrong
 
 pub refusal_of_fraction : (bs : List ℕ) (n : ℕ) → IsUtf8 bs → n ≡ prefix_len is_decimal_char bs → has_wrong_fraction (drop n bs) ≡ true →

@@ -8,7 +8,7 @@ use Rattle.litrs_base.specs.Refusal.{without_span}
 use Rattle.litrs_base.specs.Text.{is_empty, begins_with}
 use Rattle.litrs_base.proofs.Begins.{begins_with-split}
 use Rattle.litrs_grammar.specs.Literal.{bool_literal, integer_literal, float_literal, char_literal, byte_literal, string_literal, byte_string_literal, c_string_literal, string_literal_of}
-use Rattle.litrs_grammar.specs.LiteralRefusals.{Dispatch, refused_as, parsed_as, begins_float, dispatch}
+use Rattle.litrs_grammar.specs.LiteralRefusals.{Dispatch, refused_as, parsed_as, begins_with_float, dispatch}
 use Rattle.litrs_base.specs.Quotes.{quoted_front, raw_front}
 use Rattle.litrs_base.specs.declared.quotes.StringKind.{StringKind}
 use Rattle.litrs_base.specs.declared.quotes.StringKind.TheVariants.{String as string_kind, ByteString as byte_string_kind, CString as c_string_kind}
@@ -67,7 +67,7 @@ char_alone front.Char bs row other = other refl
 char_alone front.Empty bs row other = cc
 char_alone (front.Bool value) bs row other = cc
 char_alone front.Number bs row other =
-    row_by (begins_float bs) (parsed_as float_literal) (parsed_as integer_literal)
+    row_by (begins_with_float bs) (parsed_as float_literal) (parsed_as integer_literal)
     (parsed_as char_literal) (λ e. cc) (λ e. cc) row
 char_alone front.Byte bs row other = cc
 char_alone (front.Quoted string_kind) bs row other = cc
@@ -86,7 +86,7 @@ byte_alone front.Byte bs row other = other refl
 byte_alone front.Empty bs row other = cc
 byte_alone (front.Bool value) bs row other = cc
 byte_alone front.Number bs row other =
-    row_by (begins_float bs) (parsed_as float_literal) (parsed_as integer_literal)
+    row_by (begins_with_float bs) (parsed_as float_literal) (parsed_as integer_literal)
     (parsed_as byte_literal) (λ e. cc) (λ e. cc) row
 byte_alone front.Char bs row other = cc
 byte_alone (front.Quoted string_kind) bs row other = cc
@@ -177,7 +177,7 @@ string_alone kind front.Empty bs row quoted raw other =
 string_alone kind (front.Bool value) bs row quoted raw other =
     no_string_row kind (parsed_as bool_literal) refl row
 string_alone kind front.Number bs row quoted raw other =
-    row_by (begins_float bs) (parsed_as float_literal) (parsed_as integer_literal)
+    row_by (begins_with_float bs) (parsed_as float_literal) (parsed_as integer_literal)
     (parsed_as (string_literal_of kind))
     (no_string_row kind (parsed_as float_literal) refl)
     (no_string_row kind (parsed_as integer_literal) refl) row

@@ -15,7 +15,7 @@ use Rattle.litrs_base.specs.declared.integer.IntegerBase.TheVariants.{Binary, Oc
 use Rattle.litrs_base.specs.declared.err.ParseErrorKind.TheVariants.{Empty, DoesNotStartWithDigit}
 use Rattle.litrs_base.specs.Refusal.{without_span, at_byte}
 use Rattle.litrs_base.specs.Text.{is_empty, byte_len, first_passes, begins_with}
-use Rattle.litrs_grammar.specs.Suffix.{is_suffix, starts_identifier, suffix_refusal}
+use Rattle.litrs_grammar.specs.Suffix.{is_suffix, starts_identifier, suffix_kind}
 use Rattle.litrs_grammar.proofs.SuffixStart.{starts_ascii}
 use Rattle.litrs_grammar.proofs.LongerTexts.Suffix.{no_suffix}
 use Rattle.litrs_base.specs.Base.{prefix, is_digit, is_digit_or_underscore}
@@ -115,7 +115,7 @@ pub refusal_of_bytes : (bs : List ℕ) → IsUtf8 bs → integer_cut_refusal (in
     integer_rows (start_of bs) (start_of bs + run_of bs) (length bs)
     (is_suffix (chars (drop (start_of bs + run_of bs) bs)))
     (first_passes is_ascii_digit (drop (start_of bs + run_of bs) bs))
-    (suffix_refusal (chars (drop (start_of bs + run_of bs) bs)))
+    (suffix_kind (chars (drop (start_of bs + run_of bs) bs)))
     (first_passes is_e (drop (start_of bs + run_of bs) bs))
     (list_any (is_digit (base_of bs)) (take (run_of bs) (drop (start_of bs) bs)))
 refusal_of_bytes bs u =
@@ -132,11 +132,11 @@ refusal_of_bytes bs u =
     let digit : first_passes is_ascii_digit (chars x) ≡ first_passes is_ascii_digit x = first_passes-chars is_ascii_digit x digit_is_ascii front.utf8 in
     let e : first_passes is_e (chars x) ≡ first_passes is_e x = first_passes-chars is_e x e_is_ascii front.utf8 in
     ap integer_cut_refusal cut
-    ∙ (ap (λ n. integer_rows n (byte_len (prefix base ++ main)) (byte_len (prefix base ++ (main ++ chars x))) (is_suffix (chars x)) (first_passes is_ascii_digit (chars x)) (suffix_refusal (chars x)) (first_passes is_e (chars x)) (list_any (is_digit base) main)) start
-    ∙ (ap (λ n. integer_rows (start_of bs) n (byte_len (prefix base ++ (main ++ chars x))) (is_suffix (chars x)) (first_passes is_ascii_digit (chars x)) (suffix_refusal (chars x)) (first_passes is_e (chars x)) (list_any (is_digit base) main)) end
-    ∙ (ap (λ n. integer_rows (start_of bs) (start_of bs + run_of bs) n (is_suffix (chars x)) (first_passes is_ascii_digit (chars x)) (suffix_refusal (chars x)) (first_passes is_e (chars x)) (list_any (is_digit base) main)) len
-    ∙ (ap (λ v. integer_rows (start_of bs) (start_of bs + run_of bs) (length bs) (is_suffix (chars x)) v (suffix_refusal (chars x)) (first_passes is_e (chars x)) (list_any (is_digit base) main)) digit
-    ∙ ap (λ v. integer_rows (start_of bs) (start_of bs + run_of bs) (length bs) (is_suffix (chars x)) (first_passes is_ascii_digit x) (suffix_refusal (chars x)) v (list_any (is_digit base) main)) e))))
+    ∙ (ap (λ n. integer_rows n (byte_len (prefix base ++ main)) (byte_len (prefix base ++ (main ++ chars x))) (is_suffix (chars x)) (first_passes is_ascii_digit (chars x)) (suffix_kind (chars x)) (first_passes is_e (chars x)) (list_any (is_digit base) main)) start
+    ∙ (ap (λ n. integer_rows (start_of bs) n (byte_len (prefix base ++ (main ++ chars x))) (is_suffix (chars x)) (first_passes is_ascii_digit (chars x)) (suffix_kind (chars x)) (first_passes is_e (chars x)) (list_any (is_digit base) main)) end
+    ∙ (ap (λ n. integer_rows (start_of bs) (start_of bs + run_of bs) n (is_suffix (chars x)) (first_passes is_ascii_digit (chars x)) (suffix_kind (chars x)) (first_passes is_e (chars x)) (list_any (is_digit base) main)) len
+    ∙ (ap (λ v. integer_rows (start_of bs) (start_of bs + run_of bs) (length bs) (is_suffix (chars x)) v (suffix_kind (chars x)) (first_passes is_e (chars x)) (list_any (is_digit base) main)) digit
+    ∙ ap (λ v. integer_rows (start_of bs) (start_of bs + run_of bs) (length bs) (is_suffix (chars x)) (first_passes is_ascii_digit x) (suffix_kind (chars x)) v (list_any (is_digit base) main)) e))))
 
 -- Likewise by the cut that the code makes.
 
@@ -152,7 +152,7 @@ cut_bytes_is cut bs h =
 pub refusal_of_cut : (cut : IntegerCut) (bs : List ℕ) → IsUtf8 bs → IsDigitsCut cut bs → integer_cut_refusal (integer_cut (chars bs)) ≡
     integer_rows cut.start_main cut.end_main (length bs)
     (is_suffix (chars (drop cut.end_main bs))) (first_passes is_ascii_digit (drop cut.end_main bs))
-    (suffix_refusal (chars (drop cut.end_main bs))) (first_passes is_e (drop cut.end_main bs))
+    (suffix_kind (chars (drop cut.end_main bs))) (first_passes is_e (drop cut.end_main bs))
     (list_any (is_digit cut.base) (slice_range bs cut.start_main cut.end_main))
 refusal_of_cut cut bs u h =
     let is = cut_bytes_is cut bs h in
@@ -219,7 +219,7 @@ pub refusal_of_main : (cut : IntegerCut) (bs : List ℕ) → IsUtf8 bs → IsDig
     integer_rows cut.start_main cut.end_main (length bs)
     (not (first_passes is_ascii_digit (chars (drop cut.end_main bs))) && is_suffix (chars (drop cut.end_main bs)))
     (first_passes is_ascii_digit (chars (drop cut.end_main bs)))
-    (suffix_refusal (chars (drop cut.end_main bs))) (first_passes is_e (drop cut.end_main bs))
+    (suffix_kind (chars (drop cut.end_main bs))) (first_passes is_e (drop cut.end_main bs))
     (list_any is_no_underscore (slice_range bs cut.start_main cut.end_main))
 refusal_of_main cut bs u h =
     let p = is_digit_or_underscore cut.base in
@@ -230,15 +230,15 @@ refusal_of_main cut bs u h =
     refusal_of_cut cut bs u h
     ∙ ap (integer_rows cut.start_main cut.end_main (length bs)
     (is_suffix (chars (drop cut.end_main bs))) (first_passes is_ascii_digit (drop cut.end_main bs))
-    (suffix_refusal (chars (drop cut.end_main bs))) (first_passes is_e (drop cut.end_main bs)))
+    (suffix_kind (chars (drop cut.end_main bs))) (first_passes is_e (drop cut.end_main bs)))
     (any_digit cut.base (slice_range bs cut.start_main cut.end_main) all)
     ∙ ap (λ v. integer_rows cut.start_main cut.end_main (length bs) v (first_passes is_ascii_digit (drop cut.end_main bs))
-    (suffix_refusal (chars (drop cut.end_main bs))) (first_passes is_e (drop cut.end_main bs))
+    (suffix_kind (chars (drop cut.end_main bs))) (first_passes is_e (drop cut.end_main bs))
     (list_any is_no_underscore (slice_range bs cut.start_main cut.end_main)))
     (suffix_unless_digit (drop cut.end_main bs) utf8)
     ∙ ap (λ d. integer_rows cut.start_main cut.end_main (length bs)
     (not d && is_suffix (chars (drop cut.end_main bs))) d
-    (suffix_refusal (chars (drop cut.end_main bs))) (first_passes is_e (drop cut.end_main bs))
+    (suffix_kind (chars (drop cut.end_main bs))) (first_passes is_e (drop cut.end_main bs))
     (list_any is_no_underscore (slice_range bs cut.start_main cut.end_main)))
     (sym (first_passes-chars is_ascii_digit (drop cut.end_main bs) digit_is_ascii utf8))
 

@@ -14,7 +14,7 @@ use Rattle.litrs_base.proofs.CharEnds.{char_span_points, char_span_moved, moves_
 use Rattle.litrs_base.proofs.Spans.{byte_len-append}
 use Rattle.litrs_base.specs.declared.quotes.Switches.{Switches}
 use Rattle.litrs_grammar.specs.Allocation.{has_backslash}
-use Rattle.litrs_grammar.specs.Suffix.{is_suffix, suffix_refusal}
+use Rattle.litrs_grammar.specs.Suffix.{is_suffix, suffix_kind}
 use Rattle.litrs_grammar.proofs.LongerTexts.Suffix.{is_suffix-nil}
 use Rattle.litrs_grammar.specs.Quoted.{Item, body_text, body_value, is_item_list, is_body, is_plain, QuotedParts, IsQuoted, IsQuotedRefusal, item_refusal}
 use Rattle.litrs_grammar.proofs.QuotedItems.{body_stands, stands_body}
@@ -114,7 +114,7 @@ closed_free w bytes rest after offset place h u b is more suffix =
     ap (λ (l : List ℕ). item_refusal w (chars l)) (sym is) ∙ quote_free w rest _ after (quote_byte rest quote.0 quote.1) more suffix
 
 pub closed_refused : (w : Switches) (bytes rest after : List ℕ) (offset place : ℕ) (h : List ℕ → Type 0) (kind : ParseErrorKind) (e : ParseError) → IsUtf8 bytes →
-    IsReadBody w bytes offset h place → rest ≡ drop place bytes → after ≡ drop 1 rest → is_suffix (chars after) ≡ false → kind ≡ suffix_refusal (chars after) →
+    IsReadBody w bytes offset h place → rest ≡ drop place bytes → after ≡ drop 1 rest → is_suffix (chars after) ≡ false → kind ≡ suffix_kind (chars after) →
     refusal_of e ≡ at_byte 1 kind → HasCharSpan (chars rest) e → IsRestRefused w (chars rest) e
 closed_refused w bytes rest after offset place h kind e u b is more other told same span =
     let quote = at_quote w bytes rest offset place h u b is in record {

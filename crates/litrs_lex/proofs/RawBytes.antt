@@ -21,8 +21,8 @@ use Rattle.litrs_base.proofs.Chars.{OnlyAscii, chars_ascii, chars_wide, chars_em
 use Rattle.litrs_base.proofs.Runs.{list_all-append, list_all-weaken}
 use Rattle.litrs_base.proofs.Spans.{is_ascii_char, byte_len-append}
 use Rattle.litrs_lex.specs.Special.{is_ordinary}
-use Rattle.litrs_grammar.specs.Suffix.{is_suffix, suffix_refusal}
-use Rattle.litrs_grammar.specs.Raw.{is_quote, is_hash, hashes, raw_closing, occurs, is_raw_char, RawParts, IsRawOf, hash_len, length_before, raw_char_refusal, raw_body_refusal, raw_refusal}
+use Rattle.litrs_grammar.specs.Suffix.{is_suffix, suffix_kind}
+use Rattle.litrs_grammar.specs.Raw.{is_quote, is_hash, hashes, raw_closing, occurs, is_raw_char, RawParts, IsRawOf, hash_len, length_before, raw_char_kind, raw_body_refusal, raw_refusal}
 use Rattle.litrs_grammar.specs.Laws.Raw.{NoClosingIn}
 use Rattle.litrs_grammar.proofs.LongerTexts.Raw.{raw_final, raw_finality, raw_open}
 use Rattle.litrs_grammar.proofs.RawClosings.{raw_scans_stay}
@@ -210,13 +210,13 @@ open_body u a n start place bytes utf8 s none =
 -- a character that the body may not contain
 body_by : (u a : Bool) (n place : ℕ) (t body : List ℕ) (allowed : ℕ) → Option Refusal
 body_by u a n place t body allowed =
-    if ltb allowed (length body) then Some (at_byte (place + byte_len (take allowed t)) (raw_char_refusal (slice_index t allowed)))
+    if ltb allowed (length body) then Some (at_byte (place + byte_len (take allowed t)) (raw_char_kind (slice_index t allowed)))
     else if not (occurs (raw_closing n) t) then Some (without_span UnterminatedRawString)
-    else if not (is_suffix (drop (length body + (1 + n)) t)) then Some (at_byte (place + (byte_len body + (1 + n))) (suffix_refusal (drop (length body + (1 + n)) t)))
+    else if not (is_suffix (drop (length body + (1 + n)) t)) then Some (at_byte (place + (byte_len body + (1 + n))) (suffix_kind (drop (length body + (1 + n)) t)))
     else None
 
 refused_rest : (u a : Bool) (n place c : ℕ) (r : List ℕ) → is_raw_char u a c ≡ false → (34 == c) ≡ false →
-    raw_body_refusal u a n place (c ∷ r) ≡ Some (at_byte place (raw_char_refusal c))
+    raw_body_refusal u a n place (c ∷ r) ≡ Some (at_byte place (raw_char_kind c))
 unfolding raw_body_refusal body_by
 refused_rest u a n place c r not_raw other =
     let t : List ℕ = c ∷ r in
@@ -228,12 +228,12 @@ refused_rest u a n place c r not_raw other =
     ap (λ (b : List ℕ). body_by u a n place t b (prefix_len (is_raw_char u a) b)) body ∙ ap (body_by u a n place t (c ∷ take k r)) none in
     let some : ltb 0 (suc (length (take k r))) ≡ true = lt-ltb 0 (suc (length (take k r))) (omega arith) in
     let there : place + 0 ≡ place = omega arith in
-    whole ∙ (ap (λ v. if v then Some (at_byte (place + 0) (raw_char_refusal c)) else if not (occurs (raw_closing n) t) then Some (without_span UnterminatedRawString)
-    else if not (is_suffix (drop (length (c ∷ take k r) + (1 + n)) t)) then Some (at_byte (place + (byte_len (c ∷ take k r) + (1 + n))) (suffix_refusal (drop (length (c ∷ take k r) + (1 + n)) t)))
-    else None) some ∙ ap (λ m. Some (at_byte m (raw_char_refusal c))) there)
+    whole ∙ (ap (λ v. if v then Some (at_byte (place + 0) (raw_char_kind c)) else if not (occurs (raw_closing n) t) then Some (without_span UnterminatedRawString)
+    else if not (is_suffix (drop (length (c ∷ take k r) + (1 + n)) t)) then Some (at_byte (place + (byte_len (c ∷ take k r) + (1 + n))) (suffix_kind (drop (length (c ∷ take k r) + (1 + n)) t)))
+    else None) some ∙ ap (λ m. Some (at_byte m (raw_char_kind c))) there)
 
 -- a character from 128 on is refused as its first byte is
-wide_refusal : (b c : ℕ) → 128 ≤ b → 128 ≤ c → raw_char_refusal c ≡ raw_char_refusal b
+wide_refusal : (b c : ℕ) → 128 ≤ b → 128 ≤ c → raw_char_kind c ≡ raw_char_kind b
 wide_refusal b c high wide =
     let p = ne_eqb b 13 (λ e. omega arith) in
     let q = ne_eqb b 0 (λ e. omega arith) in
@@ -242,7 +242,7 @@ wide_refusal b c high wide =
     rw (p, q, r, s) refl
 
 refused_first : (u a : Bool) (n place b : ℕ) (bs : List ℕ) → IsUtf8 (b ∷ bs) → is_ordinary (raw_special u a) b ≡ false → (b == 34) ≡ false →
-    raw_body_refusal u a n place (chars (b ∷ bs)) ≡ Some (at_byte place (raw_char_refusal b))
+    raw_body_refusal u a n place (chars (b ∷ bs)) ≡ Some (at_byte place (raw_char_kind b))
 refused_first u a n place b bs utf8 stops other = elim (cases_lt b 128) [
   | inl low ↦ ap (raw_body_refusal u a n place) (chars_ascii b bs low) ∙ refused_rest u a n place b (chars bs) (stops_raw u a b stops other) (no_quote b other)
   | inr high ↦ (let w = chars_wide b bs high utf8 in
@@ -254,7 +254,7 @@ refused_first u a n place b bs utf8 stops other = elim (cases_lt b 128) [
 ]
 
 pub refused_body : (u a : Bool) (n start place b : ℕ) (bytes r : List ℕ) → IsUtf8 (drop start bytes) → IsStop u a n start bytes place → drop place bytes ≡ b ∷ r →
-    (b == 34) ≡ false → raw_body_refusal u a n start (chars (drop start bytes)) ≡ Some (at_byte place (raw_char_refusal b))
+    (b == 34) ≡ false → raw_body_refusal u a n start (chars (drop start bytes)) ≡ Some (at_byte place (raw_char_kind b))
 refused_body u a n start place b bytes r utf8 s is other =
     refusal_here u a n start place bytes utf8 s ∙ (ap (λ l. raw_body_refusal u a n place (chars l)) is
     ∙ refused_first u a n place b r (subst (λ (l : List ℕ). IsUtf8 l) is s.utf8) (ap (first_passes (is_ordinary (raw_special u a))) (sym is) ∙ s.stops) other)
@@ -279,18 +279,18 @@ closing_at n place bytes within utf8 h =
     }
 
 closed_refusal : (u a : Bool) (n start place : ℕ) (bytes : List ℕ) → IsUtf8 (drop start bytes) → IsStop u a n start bytes place → Closing n place bytes →
-    raw_body_refusal u a n start (chars (drop start bytes)) ≡ (if not (is_suffix (chars (drop (place + 1 + n) bytes))) then Some (at_byte (place + 1 + n) (suffix_refusal (chars (drop (place + 1 + n) bytes)))) else None)
+    raw_body_refusal u a n start (chars (drop start bytes)) ≡ (if not (is_suffix (chars (drop (place + 1 + n) bytes))) then Some (at_byte (place + 1 + n) (suffix_kind (chars (drop (place + 1 + n) bytes)))) else None)
 closed_refusal u a n start place bytes utf8 s c =
     let x = chars (drop (place + 1 + n) bytes) in
     let there : place + (byte_len [] + (1 + n)) ≡ place + 1 + n = omega arith in
     refusal_here u a n start place bytes utf8 s ∙ (ap (raw_body_refusal u a n place) (sym c.spells)
-    ∙ (refusal_of_closed u a n place [] x refl ∙ ap (λ k. if not (is_suffix x) then Some (at_byte k (suffix_refusal x)) else None) there))
+    ∙ (refusal_of_closed u a n place [] x refl ∙ ap (λ k. if not (is_suffix x) then Some (at_byte k (suffix_kind x)) else None) there))
 
 pub suffix_refused : (u a : Bool) (n start place : ℕ) (bytes : List ℕ) → IsUtf8 (drop start bytes) → IsStop u a n start bytes place → Closing n place bytes →
     is_suffix (chars (drop (place + 1 + n) bytes)) ≡ false →
-    raw_body_refusal u a n start (chars (drop start bytes)) ≡ Some (at_byte (place + 1 + n) (suffix_refusal (chars (drop (place + 1 + n) bytes))))
+    raw_body_refusal u a n start (chars (drop start bytes)) ≡ Some (at_byte (place + 1 + n) (suffix_kind (chars (drop (place + 1 + n) bytes))))
 suffix_refused u a n start place bytes utf8 s c none = let x = chars (drop (place + 1 + n) bytes) in
-    closed_refusal u a n start place bytes utf8 s c ∙ ap (λ v. if not v then Some (at_byte (place + 1 + n) (suffix_refusal x)) else None) none
+    closed_refusal u a n start place bytes utf8 s c ∙ ap (λ v. if not v then Some (at_byte (place + 1 + n) (suffix_kind x)) else None) none
 
 -- a text that is not a suffix is not empty
 pub suffix_within : (bytes : List ℕ) (place : ℕ) → place ≤ length bytes → is_suffix (chars (drop place bytes)) ≡ false → place + 1 ≤ length bytes
@@ -327,7 +327,7 @@ body_cut u a n start place bytes utf8 s c ends =
     ap (length_before p) (sym s.passed.spells) ∙ (scan ∙ (ap (λ l. length front + length_before p l) (sym c.spells) ∙ omega (arith, here))) in
     let back : place + 1 + n - (n + 1) ≡ place = omega arith in
     let low = s.from in record {
-      free = closed_refusal u a n start place bytes utf8 s c ∙ ap (λ v. if not v then Some (at_byte (place + 1 + n) (suffix_refusal x)) else None) ends;
+      free = closed_refusal u a n start place bytes utf8 s c ∙ ap (λ v. if not v then Some (at_byte (place + 1 + n) (suffix_kind x)) else None) ends;
       body = ap (λ k. take k t) before ∙ (ap (take (length front)) (sym s.passed.spells) ∙ (take_at front (chars (drop place bytes)) (length front) refl
           ∙ (front_bytes u a n start place bytes utf8 s ∙ ap (λ k. chars (slice_range bytes start k)) (sym back))));
       suffix = ap (λ k. drop (k + (1 + n)) t) before ∙ (ap (drop (length front + (1 + n))) (sym whole) ∙ after_closing n front x);

@@ -3,7 +3,7 @@ use Rattle.std.proofs.Common.{◌≡◌, ℕ, suc, ◌+◌, true, not, ◌&&◌,
 use Rattle.std.specs.List.{list_all, prefix_len}
 use Rattle.unicode_ident.specs.Ident.{is_xid_continue}
 use Rattle.litrs_base.specs.Text.{is_empty, first_passes}
-use Rattle.litrs_grammar.specs.Suffix.{starts_identifier, is_suffix, is_ascii_symbol, suffix_refusal}
+use Rattle.litrs_grammar.specs.Suffix.{starts_identifier, is_suffix, is_ascii_symbol, suffix_kind}
 use Rattle.std.specs.Str.{chars, IsUtf8}
 use Rattle.std.specs.Char.{is_ascii_alphabetic}
 use Rattle.std.proofs.lemmas.Bool.Decides.{nat_tests}
@@ -36,11 +36,11 @@ first_passes_nowhere p (c ∷ bs) e = cc
 pub symbols_are_ascii : OnlyAscii is_ascii_symbol
 symbols_are_ascii c high = ap (λ low. low && not (is_ascii_alphabetic c || eqb c 95)) (le-ltb c 128 high)
 
-pub suffix_refusal-symbol : (bs : List ℕ) → IsUtf8 bs → first_passes is_ascii_symbol bs ≡ true → suffix_refusal (chars bs) ≡ UnexpectedChar
-suffix_refusal-symbol bs u e = rw (first_passes-chars is_ascii_symbol bs symbols_are_ascii u, e) refl
+pub suffix_kind-symbol : (bs : List ℕ) → IsUtf8 bs → first_passes is_ascii_symbol bs ≡ true → suffix_kind (chars bs) ≡ UnexpectedChar
+suffix_kind-symbol bs u e = rw (first_passes-chars is_ascii_symbol bs symbols_are_ascii u, e) refl
 
-pub suffix_refusal-other : (bs : List ℕ) → IsUtf8 bs → first_passes is_ascii_symbol bs ≡ false → suffix_refusal (chars bs) ≡ InvalidSuffix
-suffix_refusal-other bs u e = rw (first_passes-chars is_ascii_symbol bs symbols_are_ascii u, e) refl
+pub suffix_kind-other : (bs : List ℕ) → IsUtf8 bs → first_passes is_ascii_symbol bs ≡ false → suffix_kind (chars bs) ≡ InvalidSuffix
+suffix_kind-other bs u e = rw (first_passes-chars is_ascii_symbol bs symbols_are_ascii u, e) refl
 
 -- letters, digits and `_` of ASCII, which may continue an identifier
 

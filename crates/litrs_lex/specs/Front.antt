@@ -6,7 +6,7 @@ use Rattle.litrs_base.specs.Refusal.{without_span}
 use Rattle.litrs_base.specs.Text.{is_empty, first_passes, begins_with}
 use Rattle.litrs_grammar.specs.Bool.{bool_text}
 use Rattle.litrs_grammar.specs.Literal.{bool_literal, integer_literal, float_literal, char_literal, byte_literal, c_string_literal, string_literal_of}
-use Rattle.litrs_grammar.specs.LiteralRefusals.{begins_float, Dispatch, refused_as, parsed_as, dispatch}
+use Rattle.litrs_grammar.specs.LiteralRefusals.{begins_with_float, Dispatch, refused_as, parsed_as, dispatch}
 use Rattle.litrs_base.specs.Quotes.{quoted_front, raw_front}
 use Rattle.litrs_lex.specs.declared.kind.Front.{Front}
 use Rattle.litrs_lex.specs.declared.kind.Front.TheVariants as front
@@ -16,7 +16,7 @@ abbrev pub row_of : Front → List ℕ → Dispatch
 row_of front.Empty bytes = refused_as (without_span Empty)
 row_of (front.Bool value) bytes = parsed_as bool_literal
 row_of front.Number bytes =
-    if begins_float bytes then parsed_as float_literal else parsed_as integer_literal
+    if begins_with_float bytes then parsed_as float_literal else parsed_as integer_literal
 row_of front.Char bytes = parsed_as char_literal
 row_of front.Byte bytes = parsed_as byte_literal
 row_of (front.Quoted kind) bytes = parsed_as (string_literal_of kind)

@@ -11,7 +11,7 @@ use crate::escape_end::refused_escape_goes_on;
 use crate::quoted::items_end;
 use crate::{Switches, unescape_with};
 
-/// The item within which a text ends that ends within a body.
+/// The place at which a text ends inside a body.
 #[derive(Clone, Copy)]
 pub enum Within {
     /// Between two items.
@@ -38,8 +38,7 @@ pub enum BodyStop {
 }
 
 /// Returns where the items of the quoted body end that begins at `offset`, and what ends them. For
-/// `"a\n"u8` from 1 that is the quote at 4, for `"a\u{4` the end of the text, within the escape at
-/// 2.
+/// `"a\n"u8` and 1 that is 4 and `Quote`. For `"a\u{4` and 1 it is 2 and `Ended(PartOfEscape)`.
 ///
 /// An escape or a continuation that ends the text is not among the items. `offset` is a character
 /// boundary of `input`, as for [`cut_quoted`](crate::cut_quoted).

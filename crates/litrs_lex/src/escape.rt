@@ -21,7 +21,8 @@ use litrs_base::{ParseError, ParseErrorKind, Switches, Unescape};
 ///
 /// The spans count from the backslash.
 /// - `UnterminatedEscape` at 0..1 if `input` has fewer than two characters, even if it is empty. It
-///   is over all of `input` if no character ends after the two bytes that follow `\x`.
+///   is over all of `input` if that begins with `\x` and byte 4 is not a character boundary of it:
+///   for `\x1`, and for `\xaé`.
 /// - `DisallowedNulEscape` over the escape if its value is 0 and that is not allowed.
 /// - `InvalidXEscape` if `\x` is not followed by two hex digits, and `NonAsciiXEscape` if their
 ///   value is above 7F and that is not allowed, both at 0..4.

@@ -4,7 +4,7 @@ ghost use Rattle.std.specs.Char.{is_ascii_digit};
 ghost use Rattle.std.specs.List.{list_all};
 ghost use Rattle.litrs_base.specs.Text.{first_passes};
 ghost use Rattle.litrs_grammar.specs.Literal.{kind_parse};
-ghost use Rattle.litrs_grammar.specs.LiteralRefusals.{begins_float};
+ghost use Rattle.litrs_grammar.specs.LiteralRefusals.{begins_with_float};
 ghost use Rattle.litrs_grammar.specs.Refused.{IsRefused};
 ghost use Rattle.litrs_lex.specs.IntegerCut.{IsDigitsCut};
 ghost use Rattle.litrs_lex.specs.NumberCut.{number_kind, IsNumberCut};
@@ -73,7 +73,7 @@ fn cut_any_number(input: &str) -> Result<NumberCut, ParseError>
         (IsRefused (kind_parse (number_kind (chars input.now))) (chars input.now)) }
 {
     let cut = cut_digits(input);
-    if begins_float(&cut, input.as_bytes()) {
+    if begins_with_float(&cut, input.as_bytes()) {
         Ok(NumberCut::Float(cut_float_at(input, cut.end_main)?))
     } else {
         Ok(NumberCut::Integer(cut_integer_at(input, cut)?))
@@ -82,9 +82,9 @@ fn cut_any_number(input: &str) -> Result<NumberCut, ParseError>
 
 /// Returns `true` if a text is parsed as a float: a period, `e` or `E` follows the decimal digits
 /// and underscores at its front.
-fn begins_float(cut: &IntegerCut, bytes: &[u8]) -> bool
+fn begins_with_float(cut: &IntegerCut, bytes: &[u8]) -> bool
     requires { IsDigitsCut cut.now bytes.now }
-    ensures { result ≡ begins_float bytes.now }
+    ensures { result ≡ begins_with_float bytes.now }
 {
     match cut.base {
         IntegerBase::Decimal => matches!(&bytes[cut.end_main..], [b'.' | b'e' | b'E', ..]),

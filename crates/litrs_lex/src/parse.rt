@@ -6,7 +6,7 @@ ghost use Rattle.unicode_ident.specs.Ident.{is_xid_continue};
 ghost use Rattle.litrs_base.specs.Base.{is_digit_or_underscore};
 ghost use Rattle.litrs_base.specs.Refusal.{refusal_of, without_span};
 ghost use Rattle.litrs_base.specs.Text.{first_passes};
-ghost use Rattle.litrs_grammar.specs.Suffix.{is_suffix, is_ascii_symbol, suffix_refusal};
+ghost use Rattle.litrs_grammar.specs.Suffix.{is_suffix, is_ascii_symbol, suffix_kind};
 
 use crate::{Run, run_end};
 use litrs_base::{IntegerBase, ParseError, ParseErrorKind, split_first_char};
@@ -122,7 +122,7 @@ fn is_ascii_symbol(byte: u8) -> bool
 #[inline(always)]
 pub fn check_suffix(s: &str) -> Result<(), ParseErrorKind>
     ensures ok { is_ok result ≡ is_suffix (chars s.now) }
-    ensures err { IfErr result (λ kind. kind ≡ suffix_refusal (chars s.now)) }
+    ensures err { IfErr result (λ kind. kind ≡ suffix_kind (chars s.now)) }
 {
     match s {
         "" => Ok(()),
@@ -136,7 +136,7 @@ pub fn check_suffix(s: &str) -> Result<(), ParseErrorKind>
 #[inline(never)]
 fn check_some_suffix(s: &str) -> Result<(), ParseErrorKind>
     ensures ok { is_ok result ≡ is_suffix (chars s.now) }
-    ensures err { IfErr result (λ kind. kind ≡ suffix_refusal (chars s.now)) }
+    ensures err { IfErr result (λ kind. kind ≡ suffix_kind (chars s.now)) }
 {
     if is_suffix(s) {
         return Ok(());

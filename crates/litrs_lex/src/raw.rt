@@ -3,7 +3,7 @@ ghost use Rattle.std.specs.Prelude.{◌≡◌, ◌≤◌, ℕ, Bool, length, dro
 ghost use Rattle.litrs_base.specs.Finality.{is_open};
 ghost use Rattle.litrs_base.specs.Refusal.{refusal};
 ghost use Rattle.litrs_base.specs.Text.{first_passes, begins_with};
-ghost use Rattle.litrs_grammar.specs.Raw.{is_quote, raw_closing, raw_char_refusal, raw_body_refusal, raw_refusal};
+ghost use Rattle.litrs_grammar.specs.Raw.{is_quote, raw_closing, raw_char_kind, raw_body_refusal, raw_refusal};
 ghost use Rattle.litrs_lex.specs.RawCut.{IsRawCut, IsRawRefused, IsRawOpening, IsStop, IsBodyCut};
 
 use crate::allowed::switches;
@@ -25,8 +25,9 @@ type Refusal = (Option<Range<usize>>, ParseErrorKind);
 ///
 /// # Errors
 ///
-/// - `InvalidLiteral` if the hashes end the text, or a character other than `"` follows them;
-/// - `TooManyHashes` if text follows more than 255 hashes, over the hashes;
+/// - `InvalidLiteral` if the hashes end the text, or there are at most 255 and a character other
+///   than `"` follows them;
+/// - `TooManyHashes` over the hashes if there are more than 255, and they do not end the text;
 /// - `CarriageReturn`, `NulByte` or `NonAsciiInByteLiteral` at the first character that the body
 ///   may not contain;
 /// - `UnterminatedRawString` if the body is not closed;
@@ -74,8 +75,8 @@ fn cut_raw(input: &str, offset: usize, allowed: Switches) -> Result<(u8, usize),
 ///
 /// # Errors
 ///
-/// Returns the kind and the span of [`scan_raw_string`] if the hashes end the text, a character
-/// other than `"` follows them, or text follows more than 255. No such kind is open.
+/// Returns the kind and the span of [`scan_raw_string`] if the hashes end the text, if there are
+/// more than 255, or if a character other than `"` follows at most 255. No such kind is open.
 ///
 /// [ref]: https://doc.rust-lang.org/reference/tokens.html#raw-string-literals
 #[inline(always)]
@@ -159,7 +160,7 @@ pub fn body_end(bytes: &[u8], start: usize, hashes: usize, allowed: Switches) ->
 
 /// Returns the error kind of a character that a body may not contain, by its first byte.
 pub(crate) fn char_refusal(byte: u8) -> ParseErrorKind
-    ensures { result ≡ raw_char_refusal byte }
+    ensures { result ≡ raw_char_kind byte }
 {
     match byte {
         b'\r' => ParseErrorKind::CarriageReturn,

@@ -1,11 +1,25 @@
 -- Block comments: characters that neither open nor close one may be passed over, and each step
 -- changes the number of open ones.
-use Rattle.std.proofs.Common.{◌≡◌, ℕ, zero, suc, Bool, true, false, not, List, [], ◌∷◌, Some, None, refl, sym, ap, ◌∙◌}
+use Rattle.std.proofs.Common.{◌≡◌, ℕ, zero, suc, Bool, true, false, not, List, [], ◌∷◌, Option, Some, None, refl, sym, ap, ◌∙◌}
 use Rattle.std.specs.Prelude.{if◌then◌else◌, ◌==◌, ◌&&◌, ◌||◌}
 use Rattle.std.proofs.lemmas.Bool.{eqb-true, and_parts}
 use Rattle.litrs_lexer.specs.Comment.{star, slash, opens_comment, closes_comment}
-use Rattle.litrs_lexer.specs.Cut.{is_of_comment, block_end}
+use Rattle.litrs_lexer.specs.Cut.{is_of_comment}
 use Rattle.litrs_lexer.specs.Whitespace.{after_while}
+
+-- The part of the text after the `*/` that closes a block comment, if `depth` more are open in it;
+-- None if it is not closed.
+abbrev pub block_end : (depth : ℕ) → List ℕ → Option (List ℕ)
+block_end depth [] = None
+block_end depth (c ∷ []) = None
+block_end zero (c ∷ d ∷ t) =
+    if opens_comment c d then block_end (suc zero) t
+    else if closes_comment c d then Some t
+    else block_end zero (d ∷ t)
+block_end (suc depth) (c ∷ d ∷ t) =
+    if opens_comment c d then block_end (suc (suc depth)) t
+    else if closes_comment c d then block_end depth t
+    else block_end (suc depth) (d ∷ t)
 
 -- one character, if it and the next are neither front nor end of a comment
 pub step_on : (n c d : ℕ) (t : List ℕ) → opens_comment c d ≡ false → closes_comment c d ≡ false → block_end n (c ∷ d ∷ t) ≡ block_end n (d ∷ t)

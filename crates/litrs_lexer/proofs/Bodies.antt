@@ -4,8 +4,7 @@ use Rattle.std.specs.Prelude.{◌||◌}
 use Rattle.std.proofs.lemmas.Bool.{or_parts}
 use Rattle.litrs_lexer.specs.Comment.{opens_comment, closes_comment, starts_with_mark, IsBody}
 use Rattle.litrs_lexer.specs.Comment.IsBody.{closed, comment, character}
-use Rattle.litrs_lexer.specs.Cut.{block_end}
-use Rattle.litrs_lexer.proofs.Blocks.{step_on, step_open, step_close, step_last, end_nil, end_one}
+use Rattle.litrs_lexer.proofs.Blocks.{block_end, step_on, step_open, step_close, step_last, end_nil, end_one}
 
 some_none : (r : List ℕ) → None ≡ Some r → ⊥
 some_none r e = cc

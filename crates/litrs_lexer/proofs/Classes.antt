@@ -13,7 +13,7 @@ use Rattle.litrs_grammar.specs.Raw.{is_quote}
 use Rattle.litrs_grammar.specs.Suffix.{starts_identifier}
 use Rattle.litrs_grammar.proofs.SuffixStart.{starts_ascii}
 use Rattle.litrs_base.proofs.ListTests.{if_true}
-use Rattle.litrs_prefix.specs.Opens.{first_name, after_name, after_run, after_hashes, is_single_quote, begins_lifetime, opens_raw, opens_bytes, opens_c_string, opens}
+use Rattle.litrs_prefix.specs.Opens.{first_name, after_name, after_run, after_hashes, is_single_quote, begins_with_lifetime, opens_raw, opens_bytes, opens_c_string, opens}
 use Rattle.litrs_prefix.specs.Prefix.{is_quote_or_hash}
 use Rattle.litrs_lexer.specs.Identifier.{begins_name, begins_raw_name}
 use Rattle.litrs_lexer.specs.Lifetime.{is_hash}
@@ -109,7 +109,7 @@ white_starts_none c h = elim (white_six (c == 32) (nat_le 9 c && nat_le c 13) (c
 
 abbrev Opening : ℕ → List ℕ → Type 0
 Opening c t =
-    (is_ascii_digit c ≡ true) ⊎ (((c == 34) ≡ true) ⊎ ((((c == 39) && not (begins_lifetime t)) ≡ true)
+    (is_ascii_digit c ≡ true) ⊎ (((c == 34) ≡ true) ⊎ ((((c == 39) && not (begins_with_lifetime t)) ≡ true)
     ⊎ ((((c == 114) && opens_raw t) ≡ true) ⊎ ((((c == 98) && opens_bytes t) ≡ true) ⊎ (((c == 99) && opens_c_string t) ≡ true)))))
 
 seven : (a b d e f g x : Bool) → (a || b || d || e || f || g || x) ≡ true → x ≡ false →
@@ -124,7 +124,7 @@ seven false false false false false false x h k = absurd (both_no x h k)
 
 opening : (c : ℕ) (t : List ℕ) → opens (c ∷ t) ≡ true → is_bool (first_name (c ∷ t)) ≡ false → Opening c t
 opening c t h k =
-    seven (is_ascii_digit c) (c == 34) ((c == 39) && not (begins_lifetime t)) ((c == 114) && opens_raw t) ((c == 98) && opens_bytes t) ((c == 99) && opens_c_string t)
+    seven (is_ascii_digit c) (c == 34) ((c == 39) && not (begins_with_lifetime t)) ((c == 114) && opens_raw t) ((c == 98) && opens_bytes t) ((c == 99) && opens_c_string t)
     (is_bool (first_name (c ∷ t))) h k
 
 -- a quote or a hash follows the name
@@ -246,7 +246,7 @@ other_opens : (c : ℕ) (t : List ℕ) → starts_identifier c ≡ false → Ope
 other_opens c t none how = elim how [
   | inl e ↦ (let white : is_white_space c ≡ false = grind (arith, nat_tests) in rw white (rw e refl))
   | inr (inl e) ↦ subst (λ (x : ℕ). other_class (is_white_space x) (is_ascii_digit x) (x == 34) (x == 39) (x == 47) (is_punctuation x) t ≡ 17) (sym (eqb-true c 34 e)) refl
-  | inr (inr (inl e)) ↦ (let p = and_parts (c == 39) (not (begins_lifetime t)) e in
+  | inr (inr (inl e)) ↦ (let p = and_parts (c == 39) (not (begins_with_lifetime t)) e in
       subst (λ (x : ℕ). other_class (is_white_space x) (is_ascii_digit x) (x == 34) (x == 39) (x == 47) (is_punctuation x) t ≡ 17) (sym (eqb-true c 39 p.0))
       (single_class (begins_name t) (first_passes is_single_quote (after_name t)) (first_passes is_hash (after_name t)) (begins_raw_name t) p.1))
   | inr (inr (inr (inl e))) ↦ absurd (both_no (starts_identifier c) (ap starts_identifier (eqb-true c 114 (and_parts _ _ e).0) ∙ is_xid_start-ascii 114 (omega arith)) none)

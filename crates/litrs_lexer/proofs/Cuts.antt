@@ -15,7 +15,7 @@ use Rattle.litrs_grammar.specs.Bool.{bool_text, is_bool}
 use Rattle.litrs_grammar.proofs.Laws.Literal.{some_bool}
 use Rattle.litrs_grammar.specs.Literal.{Derivation, a_bool, IsLiteral}
 use Rattle.litrs_prefix.specs.Ends.{IsEndOf}
-use Rattle.litrs_prefix.specs.Meant.{IsMeant}
+use Rattle.litrs_prefix.specs.Piece.{IsPiece}
 use Rattle.litrs_prefix.specs.Opens.{is_single_quote, after_run, first_run, first_name, after_name, opens}
 use Rattle.litrs_prefix.specs.Prefix.{HasPrefix, HasNoPrefix, is_quote_or_hash, ends_bool}
 use Rattle.litrs_prefix.proofs.Ends.{end_at, all, after_first, after_bytes, end_of_end, not_longer, shorter}
@@ -59,10 +59,10 @@ pub literal_some : (text : List ℕ) (n : ℕ) (d : Derivation) → IsUtf8 text 
 literal_some text zero d u at h = absurd (no_empty_piece text d (chars text) h (IsCharBoundary-start text u, refl))
 literal_some text (suc n) d u at h = omega arith
 
-pub meant_token : (text rest : List ℕ) (n : ℕ) → IsUtf8 text → IsCharBoundary text n → rest ≡ drop n text → opens_quoted (chars text) ≡ true → HasNoPrefix (chars text) →
-    IsMeant (chars text) (chars (take n text)) → ((d : Derivation) → IsLiteral (chars (take n text)) d → ⊥) → IsToken MalformedLiteral (chars text) (chars rest)
-meant_token text rest n u at back opens none meant refused =
-    (opens, none, (chars (take n text), parts_spell text (take n text) rest n u at refl back, meant, refused))
+pub piece_token : (text rest : List ℕ) (n : ℕ) → IsUtf8 text → IsCharBoundary text n → rest ≡ drop n text → opens_quoted (chars text) ≡ true → HasNoPrefix (chars text) →
+    IsPiece (chars text) (chars (take n text)) → ((d : Derivation) → IsLiteral (chars (take n text)) d → ⊥) → IsToken MalformedLiteral (chars text) (chars rest)
+piece_token text rest n u at back opens none is_piece refused =
+    (opens, none, (chars (take n text), parts_spell text (take n text) rest n u at refl back, is_piece, refused))
 
 -- a bool is the whole name at the front
 bool_token : (t rest name : List ℕ) (b : Bool) → name ≡ first_name t → name ≡ bool_text b → rest ≡ after_name t → ends_bool rest ≡ true → IsToken Literal t rest

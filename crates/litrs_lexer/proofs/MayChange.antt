@@ -9,13 +9,13 @@ use Rattle.litrs_grammar.specs.Literal.{Derivation, IsLiteral}
 use Rattle.litrs_grammar.specs.Suffix.{starts_identifier}
 use Rattle.litrs_grammar.proofs.Laws.Literal.{is_text-is}
 use Rattle.litrs_prefix.specs.MayChange.{malformed, IsMalformedFront, AnswerStays, AnswerChanges, is_open_front}
-use Rattle.litrs_prefix.specs.Meant.{IsMeant}
+use Rattle.litrs_prefix.specs.Piece.{IsPiece}
 use Rattle.litrs_prefix.specs.Opens.{first_run, first_name, after_name, is_single_quote, opens}
 use Rattle.litrs_prefix.specs.Prefix.{is_quote_or_hash}
 use Rattle.litrs_prefix.proofs.LongerTexts.{stays}
 use Rattle.litrs_prefix.proofs.MayChange.{front_later, letter_follows_none, opens_unless_bool}
 use Rattle.litrs_prefix.proofs.Names.{first_of_bool}
-use Rattle.litrs_prefix.proofs.MeantEnds.{some_left, first_stays, rest_kept, name_kept, name_taken, x_begins}
+use Rattle.litrs_prefix.proofs.PieceEnds.{some_left, first_stays, rest_kept, name_kept, name_taken, x_begins}
 use Rattle.litrs_lexer.specs.declared.kind.TokenKind.{TokenKind}
 use Rattle.litrs_lexer.specs.declared.kind.TokenKind.TheVariants.{Whitespace, LineComment, BlockComment, UnterminatedBlockComment, Ident, RawIdent, UnknownPrefix, Lifetime, RawLifetime, UnknownPrefixLifetime, Literal, MalformedLiteral, Punctuation, Unknown}
 use Rattle.litrs_lexer.specs.Comment.{IsBody, is_of_line, is_star_or_slash, starts_with_mark, after_line}
@@ -231,7 +231,7 @@ malformed_answer t rest front opens_at is same = record {
   spells = ap (λ (l : List ℕ). l ++ rest) same ∙ is.2.1;
   opens = (and_parts (opens t) (not (is_bool (first_name t))) opens_at).0;
   none = is.1;
-  meant = subst (λ (l : List ℕ). IsMeant t l) (sym same) is.2.2;
+  is_piece = subst (λ (l : List ℕ). IsPiece t l) (sym same) is.2.2;
   invalid = subst (λ (l : List ℕ). (d : Derivation) → IsLiteral l d → ⊥) (sym same) is.2.3;
 }
 
@@ -244,7 +244,7 @@ malformed_token_stays t rest is stay = stays_one MalformedLiteral t rest is go
         let longer = stay (malformed front) m text (malformed_answer t rest front is.0 is refl) in (
           and_from (opens (t ++ m)) (not (is_bool (first_name (t ++ m)))) longer.opens (ap not (no_bool_open t m is.0)),
           longer.none,
-          (front, sym (append_assoc front rest m) ∙ ap (λ (l : List ℕ). l ++ m) is.2.1, longer.meant, longer.invalid),
+          (front, sym (append_assoc front rest m) ∙ ap (λ (l : List ℕ). l ++ m) is.2.1, longer.is_piece, longer.invalid),
         )
 
 pub malformed_token_changes : (t rest : List ℕ) → IsToken MalformedLiteral t rest → AnswerChanges t → TokenChanges t

@@ -14,7 +14,7 @@ use Rattle.litrs_grammar.specs.Literal.{Derivation}
 use Rattle.unicode_ident.specs.Ident.{is_xid_continue}
 use Rattle.litrs_prefix.specs.Opens.{first_name, after_name, after_run, is_single_quote, opens}
 use Rattle.litrs_prefix.specs.Prefix.{HasPrefix, is_quote_or_hash, ends_bool}
-use Rattle.litrs_prefix.proofs.MeantPieces.{meant_unique}
+use Rattle.litrs_prefix.proofs.PieceLaws.{piece_unique}
 use Rattle.litrs_prefix.proofs.Names.{bool_after, name_and_rest}
 use Rattle.litrs_prefix.proofs.Opened.{opened}
 use Rattle.litrs_prefix.proofs.Unique.{at_bool, unique}
@@ -286,7 +286,7 @@ rest_malformed : (t r u : List ℕ) → IsToken MalformedLiteral t r → IsToken
 rest_malformed t r u a b =
     let m = a.2 in
     let n = b.2 in
-    let same : m.0 ≡ n.0 = meant_unique t m.0 n.0 r u m.2 n.2 m.1 n.1 m.3 n.3 in
+    let same : m.0 ≡ n.0 = piece_unique t m.0 n.0 r u m.2 n.2 m.1 n.1 m.3 n.3 in
     append_cancel_left n.0 r u (ap (λ (l : List ℕ). l ++ r) (sym same) ∙ (m.1 ∙ sym n.1))
 
 not_malformed : (t r u : List ℕ) → IsToken Literal t r → IsToken MalformedLiteral t u → ⊥

@@ -82,7 +82,7 @@ line_doc (c ∷ t) =
     else None
 
 -- The documentation that a block comment is, by its text after `/*`: inner if that starts with `!`,
--- and outer if it starts with `*`, but not with `**` and `*/`.
+-- and outer if it starts with `*`, but neither with `**` nor with `*/`.
 abbrev pub block_doc : List ℕ → Option DocStyle
 block_doc [] = None
 block_doc (c ∷ t) =

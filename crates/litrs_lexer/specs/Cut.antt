@@ -1,5 +1,5 @@
 -- The cuts of a text by the code, in bytes.
-use Rattle.std.specs.Prelude.{◌≡◌, ◌<◌, ℕ, zero, suc, Bool, not, ◌==◌, ◌&&◌, ◌||◌, List, [], ◌∷◌, ◌++◌, length, Option, Some, None, if◌then◌else◌, nat_le}
+use Rattle.std.specs.Prelude.{◌≡◌, ◌<◌, ℕ, Bool, not, ◌==◌, ◌&&◌, ◌||◌, List, [], ◌∷◌, ◌++◌, length, Option, Some, None, if◌then◌else◌, nat_le}
 use Rattle.std.specs.Char.{encode_utf8}
 use Rattle.std.specs.Str.{chars}
 use Rattle.litrs_base.specs.Characters.{letter_b, letter_c, letter_r}
@@ -8,7 +8,7 @@ use Rattle.litrs_lex.specs.declared.run.Run.TheVariants.{Identifier}
 use Rattle.litrs_prefix.specs.Ends.{IsEndOf}
 use Rattle.litrs_lexer.specs.declared.ascii.Class.{Class}
 use Rattle.litrs_lexer.specs.declared.ascii.Class.TheVariants.{Word, Space}
-use Rattle.litrs_lexer.specs.Comment.{is_star_or_slash, opens_comment, closes_comment}
+use Rattle.litrs_lexer.specs.Comment.{is_star_or_slash}
 use Rattle.litrs_lexer.specs.Token.{IsToken}
 use Rattle.litrs_lexer.specs.declared.kind.TokenKind.{TokenKind}
 
@@ -51,17 +51,3 @@ is_of_class Space = is_ascii_white_space
 -- neither `/*` nor `*/` starts with the character
 abbrev pub is_of_comment : ℕ → Bool
 is_of_comment c = not (is_star_or_slash c)
-
--- The part of the text after the `*/` that closes a block comment, if `depth` more are open in it;
--- None if it is not closed.
-abbrev pub block_end : (depth : ℕ) → List ℕ → Option (List ℕ)
-block_end depth [] = None
-block_end depth (c ∷ []) = None
-block_end zero (c ∷ d ∷ t) =
-    if opens_comment c d then block_end (suc zero) t
-    else if closes_comment c d then Some t
-    else block_end zero (d ∷ t)
-block_end (suc depth) (c ∷ d ∷ t) =
-    if opens_comment c d then block_end (suc (suc depth)) t
-    else if closes_comment c d then block_end depth t
-    else block_end (suc depth) (d ∷ t)

@@ -6,7 +6,7 @@ use Rattle.litrs_base.specs.declared.err.ParseError.{ParseError}
 use Rattle.litrs_grammar.specs.Bool.{is_bool}
 use Rattle.litrs_grammar.specs.Literal.{Derivation, IsLiteral, literal_parse}
 use Rattle.litrs_grammar.specs.Refused.{IsRefusedOrOutOfMemory}
-use Rattle.litrs_prefix.specs.Meant.{IsMeant}
+use Rattle.litrs_prefix.specs.Piece.{IsPiece}
 use Rattle.litrs_prefix.specs.Opens.{first_name, opens}
 use Rattle.litrs_prefix.specs.Prefix.{HasPrefix, HasNoPrefix}
 
@@ -24,7 +24,7 @@ IsLiteralToken t rest = (d : Derivation) × HasPrefix t d rest
 abbrev pub IsMalformedLiteral : (t rest : List ℕ) → Type 0
 IsMalformedLiteral t rest =
     IsTrue (opens_quoted t) × HasNoPrefix t
-    × ((front : List ℕ) × (front ++ rest ≡ t) × IsMeant t front
+    × ((front : List ℕ) × (front ++ rest ≡ t) × IsPiece t front
     × ((d : Derivation) → IsLiteral front d → ⊥))
 
 -- The error of the text as a literal, or of an allocation. The text starts `start` bytes into a

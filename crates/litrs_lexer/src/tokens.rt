@@ -8,7 +8,7 @@ use crate::token::Token;
 use std::alloc::{AllocError, Global};
 use std::iter::FusedIterator;
 
-/// An iterator over the tokens of a text. Created by [`tokenize`]. A copy looks ahead.
+/// An iterator over the tokens of a text. Created by [`tokenize`]. Copy it to look ahead.
 #[derive(Clone, Copy, Debug, Drop)]
 pub struct Tokens<'a> {
     /// The whole text.

@@ -48,7 +48,7 @@ fn may_start_with_white_space(text: &str) -> bool
     }
 }
 
-/// Like [`after_white_space`], but always compares 16 bytes at a time.
+/// Like [`after_white_space`], without the test of the first byte.
 #[inline(always)]
 fn after_run_of_white_space(text: &str) -> &str
     ensures rest { chars result.now ≡ after_white_space (chars text.now) }

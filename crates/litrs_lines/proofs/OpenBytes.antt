@@ -21,8 +21,8 @@ use Rattle.litrs_grammar.specs.Quoted.{Item, continuation, body_text, is_item_li
 use Rattle.litrs_base.specs.Finality.{is_open}
 use Rattle.litrs_base.specs.Refusal.{Refusal, without_span, at_byte}
 use Rattle.litrs_base.specs.declared.err.ParseErrorKind.TheVariants.{CarriageReturn, NulByte, NonAsciiInByteLiteral, UnterminatedRawString}
-use Rattle.litrs_grammar.specs.Suffix.{is_suffix, suffix_refusal}
-use Rattle.litrs_grammar.specs.Raw.{is_quote, is_nul, raw_char_refusal, hashes, hash_len, occurs, raw_closing, has_unicode, allows_nul, is_raw_char, raw_body_refusal, raw_refusal}
+use Rattle.litrs_grammar.specs.Suffix.{is_suffix, suffix_kind}
+use Rattle.litrs_grammar.specs.Raw.{is_quote, is_nul, raw_char_kind, hashes, hash_len, occurs, raw_closing, has_unicode, allows_nul, is_raw_char, raw_body_refusal, raw_refusal}
 use Rattle.litrs_grammar.specs.Laws.Raw.{NoClosingIn}
 use Rattle.litrs_grammar.proofs.Laws.Quoted.{body_text-append}
 use Rattle.litrs_grammar.proofs.RawCuts.{HashCut, hash_cut, hash_len-append, after_hashes, length-hashes}
@@ -384,12 +384,12 @@ stop_row u a n start end bytes utf8 stop closing inside told = by (drop end byte
     ends true begins is = other None (body_cut u a n start end bytes utf8 stop (closing_at n end bytes stop.within stop.utf8 begins) is).free refl
     ends false begins is =
         let suffix = chars (drop (end + 1 + n) bytes) in
-        other (Some (at_byte (end + 1 + n) (suffix_refusal suffix))) (suffix_refused u a n start end bytes utf8 stop (closing_at n end bytes stop.within stop.utf8 begins) is) (shut_suffix suffix)
+        other (Some (at_byte (end + 1 + n) (suffix_kind suffix))) (suffix_refused u a n start end bytes utf8 stop (closing_at n end bytes stop.within stop.utf8 begins) is) (shut_suffix suffix)
 
     first : (b : ℕ) (r : List ℕ) (q : Bool) → drop end bytes ≡ b ∷ r → (b == 34) ≡ q → ⊥
     first b r true is quote = ends (is_suffix (chars (drop (end + 1 + n) bytes))) (closing (ap (first_passes is_quote) is ∙ quote)) refl
     first b r false is plain =
-        other (Some (at_byte end (raw_char_refusal b))) (refused_body u a n start end b bytes r utf8 stop is plain)
+        other (Some (at_byte end (raw_char_kind b))) (refused_body u a n start end b bytes r utf8 stop is plain)
         (shut_kind_if (b == 13) CarriageReturn (if is_nul b then NulByte else NonAsciiInByteLiteral) refl (shut_kind_if (is_nul b) NulByte NonAsciiInByteLiteral refl refl))
 
     by : (rest : List ℕ) → drop end bytes ≡ rest → ⊥

@@ -18,7 +18,7 @@ use Rattle.litrs_base.specs.declared.quotes.StringKind.{StringKind}
 use Rattle.litrs_base.specs.declared.quotes.StringKind.TheVariants.{String as string_kind, ByteString as byte_string_kind, CString as c_string_kind}
 use Rattle.litrs_base.specs.Quotes.{switches_of, quoted_front, raw_front}
 use Rattle.litrs_base.specs.declared.quotes.Switches.{Switches}
-use Rattle.litrs_grammar.specs.Suffix.{is_suffix, suffix_refusal}
+use Rattle.litrs_grammar.specs.Suffix.{is_suffix, suffix_kind}
 use Rattle.litrs_grammar.specs.LongerTexts.{BeginsBy}
 use Rattle.litrs_grammar.specs.Escape.{Escape, escape_text, IsEscape}
 use Rattle.litrs_grammar.specs.Quoted.{Item, plain_item, escape_item, body_text, is_item_list, QuotedParts, item_refusal, IsQuotedLiteral, IsQuotedRefusal, IsQuotedLiteralRefusal}
@@ -117,7 +117,7 @@ not_suffix s = by (is_suffix (s ++ 10 ∷ [])) refl
     by false is = refl
     by true is = absurd (both_ways _ (suffix_last (s ++ 10 ∷ []) is) (line_feed_last s))
 
-quote_refused : (kind : StringKind) (t : List ℕ) → is_suffix t ≡ false → item_refusal (switches_of kind) (34 ∷ t) ≡ Some (at_byte 1 (suffix_refusal t))
+quote_refused : (kind : StringKind) (t : List ℕ) → is_suffix t ≡ false → item_refusal (switches_of kind) (34 ∷ t) ≡ Some (at_byte 1 (suffix_kind t))
 unfolding item_refusal
 quote_refused string_kind t other = if_true (not (is_suffix t)) _ _ (not_from_false _ other)
 quote_refused byte_string_kind t other = if_true (not (is_suffix t)) _ _ (not_from_false _ other)
@@ -129,10 +129,10 @@ open_is_none kind t q is line =
     let w = switches_of kind in
     let front = quoted_front kind in
     let after : List ℕ = q.suffix ++ 10 ∷ [] in
-    let closed : IsQuotedRefusal front w (t ++ 10 ∷ []) (shifted (byte_len (front ++ body_text q.items)) (at_byte 1 (suffix_refusal after))) = record {
+    let closed : IsQuotedRefusal front w (t ++ 10 ∷ []) (shifted (byte_len (front ++ body_text q.items)) (at_byte 1 (suffix_kind after))) = record {
       items = q.items;
       rest = 34 ∷ after;
-      cause = at_byte 1 (suffix_refusal after);
+      cause = at_byte 1 (suffix_kind after);
       spells = more_after front (body_text q.items) (34 ∷ q.suffix) (10 ∷ []) t is.spells;
       taken = body_stands w q.items after is.body;
       decided = quote_refused kind after (not_suffix q.suffix);
@@ -148,7 +148,7 @@ open_is_none kind t q is line =
       placed = refl;
     } in
     let same = quoted_refusals_are_unique front w (t ++ 10 ∷ []) _ _ closed unclosed in
-    both_ways (is_open (suffix_refusal after)) (shut_suffix after) (ap (λ (r : Refusal). is_open r.kind) same)
+    both_ways (is_open (suffix_kind after)) (shut_suffix after) (ap (λ (r : Refusal). is_open r.kind) same)
 
 line_feed_stands : (kind : StringKind) → is_item_list (switches_of kind) [] (plain_item 10 ∷ []) ≡ true
 line_feed_stands string_kind = refl
@@ -246,7 +246,7 @@ quote_is_shut kind [] h = absurd (false≢true h)
 quote_is_shut kind (c ∷ s) h =
     let after : List ℕ = s ++ 10 ∷ [] in
     subst (λ n. IsShut (switches_of kind) (n ∷ s)) (sym (eqb-true c 34 h))
-    (at_byte 1 (suffix_refusal after), quote_refused kind after (not_suffix s), shut_suffix after)
+    (at_byte 1 (suffix_kind after), quote_refused kind after (not_suffix s), shut_suffix after)
 
 -- Texts that begin a literal with an LF after them
 

@@ -106,14 +106,14 @@ impl Collector {
     /// not a literal and, with an LF after them, begin one. Returns `Refused` if and only if
     /// neither holds. After `Literal` and `Refused` no line is held, after `More` all of them are.
     ///
-    /// `line` has no LF at its end. An LF within it is part of the text, as the one between two
-    /// lines is: `"a`, LF, `b"` in one call is the literal that `"a` and `b"` in two are.
+    /// `line` has no LF at its end. An LF within it is part of the text. So the line `"a`, LF, `b"`
+    /// is the same literal as the lines `"a` and `b"`.
     ///
     /// `More` and `Refused` take at most one allocation.
     ///
-    /// While the lines are a string that continues, a call takes time in proportion to `line`. Of
-    /// the lines before it, at most the end of the last one is read again. `Literal` and `Refused`
-    /// take time in proportion to all lines.
+    /// While the lines are a string that continues, calls take time in proportion to their lines,
+    /// amortized. Of the lines before `line`, at most the end of the last one is read again.
+    /// `Literal` and `Refused` take time in proportion to all lines.
     ///
     /// # Errors
     ///
@@ -162,7 +162,7 @@ impl Collector {
     /// `b"` joined by LF, and the rest ` + 1`.
     ///
     /// The result is `More` if and only if that of `feed` is. After the other results no line is
-    /// held. The call allocates like `feed` for the lines without the rest.
+    /// held. If lines are held, all of `line` is copied. The literal is then copied without the rest.
     ///
     /// # Errors
     ///
@@ -307,8 +307,8 @@ impl Collector {
         self.held.is_empty()
     }
 
-    /// Returns the lines that are held, joined by LF, in the order in which they were fed. It is
-    /// empty if no line is held, or one empty line.
+    /// Returns the lines that are held, joined by LF, in the order in which they were fed. The text is
+    /// empty only if no line is held.
     pub fn text(&self) -> &str
         ensures none { self.now ≡ [] → result.now ≡ [] }
         ensures lines { self.now ≢ [] → result.now ++ line_feed ∷ [] ≡ self.now }

@@ -3,9 +3,24 @@ ghost use Rattle.std.specs.Prelude.{◌≡◌, ℕ, ◌≤◌, ◌+◌, ◌<◌,
 ghost use Rattle.std.specs.Io.KnownBytes.{Keeps, ReadConsumes, WriteAppends};
 ghost use Rattle.litrs_lines.specs.Devices.{RecordsFailure};
 
+use std::error::Error;
+use std::fmt;
+
 /// An error: a call of a device failed.
 #[derive(Clone, Copy, Debug, PartialEq, Eq)]
 pub struct Failed;
+
+impl fmt::Display for Failed {
+    ghost use Rattle.std.specs.Prelude.{Some, codes};
+
+    ghost output = { λ _. Some (codes "device failed") };
+
+    fn fmt<W: fmt::Write>(&self, f: &mut fmt::Formatter<W>) -> fmt::Result {
+        f.write_str("device failed")
+    }
+}
+
+impl Error for Failed {}
 
 /// A source of bytes.
 pub trait Input {
@@ -22,7 +37,12 @@ pub trait Input {
     /// Reads bytes into the front of `buffer` and returns their number.
     ///
     /// If the bytes of the input are known, these are the next of them. The number is 0 only at the
-    /// end, or if `buffer` is empty. A call that fails reads nothing.
+    /// end, or if `buffer` is empty.
+    ///
+    /// # Errors
+    ///
+    /// Returns [`Failed`] if the device failed. Then nothing was read, and `failed` returns `true`
+    /// from now on.
     fn read(&mut self, buffer: &mut [u8]) -> Result<usize, Failed>
         ensures bound { IfOk result (λ count. count ≤ length buffer.new) }
         ensures bytes { ReadConsumes (remaining self.old) (remaining self.new) result buffer.new }
@@ -54,7 +74,12 @@ pub trait Output {
     ghost is_flushed: { Self → Bool } = { λ _. true };
 
     /// Writes bytes from the front of `piece` and returns their number, which is at least 1 if
-    /// `piece` is not empty. A call that fails writes nothing.
+    /// `piece` is not empty.
+    ///
+    /// # Errors
+    ///
+    /// Returns [`Failed`] if the device failed. Then nothing was written, and `failed` returns `true`
+    /// from now on.
     fn write(&mut self, piece: &[u8]) -> Result<usize, Failed>
         ensures bound { IfOk result (λ count. count ≤ length piece.now) }
         ensures some { IfOk result (λ count. count ≡ 0 → piece.now ≡ []) }
@@ -63,6 +88,10 @@ pub trait Output {
         ensures write_failed { OnErr result (write_failed self.new ≡ true) };
 
     /// Flushes the bytes that were written. Does not write a byte itself.
+    ///
+    /// # Errors
+    ///
+    /// Returns [`Failed`] if the device failed. Then `failed` returns `true` from now on.
     fn flush(&mut self) -> Result<(), Failed>
         ensures bytes { Keeps (contents self.old) (contents self.new) }
         ensures flushed { OnOk result (is_flushed self.new ≡ true) }

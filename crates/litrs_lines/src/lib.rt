@@ -211,8 +211,8 @@ fn finish<O: Output>(line: &[u8], reporter: &mut Reporter<O>) -> Result<(), RunE
 ///
 /// # Errors
 ///
-/// Returns `Read` if the reader failed, or was read 2^64 - 1 times, which a reader whose bytes are
-/// known never is. Returns `Write` if the writer failed, and `Memory` if an allocation failed. The
+/// Returns `Read` if the input failed, or was read 2^64 - 1 times, which an input whose bytes are
+/// known never is. Returns `Write` if the output failed, and `Memory` if an allocation failed. The
 /// bytes that were written are then a prefix of the reports on the groups of the whole lines that
 /// were read.
 ///

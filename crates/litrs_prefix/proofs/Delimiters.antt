@@ -3,7 +3,7 @@ use Rattle.litrs_prefix.proofs.Words.{◌≡◌, take_at, cases_Bool, inl, inr, 
 use Rattle.std.specs.Str.{trim_end}
 use Rattle.std.proofs.lemmas.Str.{chars_from_encodes}
 use Rattle.litrs_prefix.proofs.Ends.{all as whole, bytes_spell, end_of_end}
-use Rattle.litrs_prefix.proofs.MeantEnds.{EndsAt, ends_at, next, either, opened_piece}
+use Rattle.litrs_prefix.proofs.PieceEnds.{EndsAt, ends_at, next, either, opened_piece}
 
 -- the searched text ends with the text, and so does the found rest
 found_end : (ds : List ℕ) (t : List ℕ) → IsEndOf t (from_first ds t)

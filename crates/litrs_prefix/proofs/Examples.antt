@@ -8,16 +8,16 @@ use Rattle.litrs_grammar.specs.Literal.{literal_parse}
 use Rattle.litrs_grammar.specs.Refused.{IsRefused, IsOutOfMemory}
 use Rattle.litrs_prefix.specs.declared.MalformedPrefix.{MalformedPrefix}
 use Rattle.litrs_prefix.specs.Malformed.{IsMalformed, IsOutOfMemoryAt, IsMalformedOrOutOfMemory, IsMovedBy, marked_at, IsMarkedAt}
-use Rattle.litrs_prefix.specs.Meant.{IsMeant}
+use Rattle.litrs_prefix.specs.Piece.{IsPiece}
 use Rattle.litrs_prefix.specs.Opens.{opens}
 use Rattle.litrs_prefix.specs.Prefix.{HasPrefix, HasNoPrefix}
 
--- the front that was meant as a literal, which has a byte or more, and its refusal
+-- the malformed prefix, which has a byte or more, and its refusal
 malformed_front :
     (t : List ℕ) (e : MalformedPrefix) (is : IsMalformed t e) →
     (is.front ++ is.rest ≡ t) × (byte_len is.front ≡ e.len) × (0 < e.len)
-    × IsMeant t is.front × IsRefused literal_parse is.front e.error
-malformed_front t e is = (is.spells, is.len, is.some, is.meant, is.refused)
+    × IsPiece t is.front × IsRefused literal_parse is.front e.error
+malformed_front t e is = (is.spells, is.len, is.some, is.is_piece, is.refused)
 
 -- a literal opens, and none begins the text
 malformed_text : (t : List ℕ) (e : MalformedPrefix) → IsMalformed t e → IsTrue (opens t) × HasNoPrefix t

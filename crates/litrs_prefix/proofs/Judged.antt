@@ -1,6 +1,6 @@
 -- Decisions if a piece of a text is a literal, and if the rest may follow it.
 use Rattle.litrs_prefix.proofs.Words.{◌≡◌, inl, inr, ℕ, ◌<◌, Bool, true, false, List, ◌++◌, take, drop, Option, Some, None, refl, sym, ap, subst, ◌∙◌, arith, ◌&&◌, if◌then◌else◌, false≢true, begins_with-split, dispatch_literal, literals_are_unique}
-use Rattle.litrs_prefix.specs.Words.{codes, chars, IsUtf8, IsCharBoundary, quoted_front, raw_front, begins_with, char_kind, byte_kind, IsCharLiteral, IsFloatOf, IsIntegerOf, Derivation, an_integer, a_char, a_byte, IsLiteral, begins_float, IsQuotedLiteral, RawParts, IsRawLiteral, IsFront, IsOnlyRest, IsLiteralLen, IsMalformedLen, IsJudged, IsJudgedBy, IsMeant, opens, may_follow, ends_suffix, ends_integer, HasPrefix, HasNoPrefix, InvalidLiteral, HasNoDerivation, without_span, StringKind, string_kind, byte_string_kind, c_string_kind, CharParts, a_string, a_byte_string, a_c_string, IsString, StringParts, quoted_parts, raw_parts, string_suffix, char_literal, byte_literal, c_string_literal, string_literal_of, literal_kind, Dispatch, refused_as, parsed_as, dispatch, QuotedParts, EndsBefore}
+use Rattle.litrs_prefix.specs.Words.{codes, chars, IsUtf8, IsCharBoundary, quoted_front, raw_front, begins_with, char_kind, byte_kind, IsCharLiteral, IsFloatOf, IsIntegerOf, Derivation, an_integer, a_char, a_byte, IsLiteral, begins_with_float, IsQuotedLiteral, RawParts, IsRawLiteral, IsFront, IsOnlyRest, IsLiteralLen, IsMalformedLen, IsJudged, IsJudgedBy, IsPiece, opens, may_follow, ends_suffix, ends_integer, HasPrefix, HasNoPrefix, InvalidLiteral, HasNoDerivation, without_span, StringKind, string_kind, byte_string_kind, c_string_kind, CharParts, a_string, a_byte_string, a_c_string, IsString, StringParts, quoted_parts, raw_parts, string_suffix, char_literal, byte_literal, c_string_literal, string_literal_of, literal_kind, Dispatch, refused_as, parsed_as, dispatch, QuotedParts, EndsBefore}
 use Rattle.litrs_lex.specs.declared.kind.Front.{Front}
 use Rattle.litrs_lex.specs.declared.kind.Front.TheVariants as front
 use Rattle.litrs_lex.specs.Front.{row_of}
@@ -99,7 +99,7 @@ pub number_before : (bs r : List ℕ) (o : Option Bool) → IsUtf8 bs → IsFron
     IsJudgedBy (IsIntegerOf (chars bs)) (λ d. ends_suffix d.suffix r && ends_integer d r) o → IsJudged o (chars bs) r
 number_before bs r (Some b) u is floats integers = integer_before (chars bs) r b integers
 number_before bs r None u is floats integers = λ d h.
-    elim (number_kind (begins_float bs) d (kind_at front.Number bs _ d u is refl h)) [
+    elim (number_kind (begins_with_float bs) d (kind_at front.Number bs _ d u is refl h)) [
       | inl x ↦ integers x.0 (subst (λ (e : Derivation). IsLiteral (chars bs) e) x.1 h)
       | inr x ↦ floats x.0 (subst (λ (e : Derivation). IsLiteral (chars bs) e) x.1 h)
     ]
@@ -128,9 +128,9 @@ judged_prefix bs f rest n v u bound before after is e = record {
   at_front = subst (λ (l : List ℕ). HasPrefix (chars bs) is.0 (chars l)) after (record { front = chars f; spells = parts_spell bs f rest n u bound before after; literal = is.1; follows = is.2 ∙ e });
 }
 
-pub malformed_piece : (bs f rest : List ℕ) (n : ℕ) → IsUtf8 bs → IsCharBoundary bs n → f ≡ take n bs → rest ≡ drop n bs → 0 < n → IsMeant (chars bs) (chars (take n bs)) → opens (chars bs) ≡ true →
+pub malformed_piece : (bs f rest : List ℕ) (n : ℕ) → IsUtf8 bs → IsCharBoundary bs n → f ≡ take n bs → rest ≡ drop n bs → 0 < n → IsPiece (chars bs) (chars (take n bs)) → opens (chars bs) ≡ true →
     HasNoPrefix (chars bs) → HasNoDerivation (IsLiteral (chars f)) → IsMalformedLen bs n
-malformed_piece bs f rest n u bound before after some meant opens_at none invalid =
+malformed_piece bs f rest n u bound before after some is_piece opens_at none invalid =
     let same : chars f ≡ chars (take n bs) = ap chars before in
     record {
       boundary = bound;
@@ -140,7 +140,7 @@ malformed_piece bs f rest n u bound before after some meant opens_at none invali
         spells = ap (λ (l : List ℕ). l ++ chars rest) (sym same) ∙ parts_spell bs f rest n u bound before after;
         opens = opens_at;
         none = none;
-        meant = meant;
+        is_piece = is_piece;
         invalid = λ d h. invalid d (subst (λ (l : List ℕ). IsLiteral l d) (sym same) h);
       };
     }

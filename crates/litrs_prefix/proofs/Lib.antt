@@ -15,9 +15,9 @@ pub mod MayChange
 pub mod NumberEnds
 -- malformed prefixes
 pub mod Pieces
-pub mod Meant
-pub mod MeantEnds
-pub mod MeantPieces
+pub mod PieceBodies
+pub mod PieceEnds
+pub mod PieceLaws
 -- the part that an error marks
 pub mod Marks
 -- errors of memory

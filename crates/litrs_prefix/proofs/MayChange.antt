@@ -1,5 +1,5 @@
 -- Answers that more text changes, and those that stay.
-use Rattle.litrs_prefix.proofs.Words.{◌≡◌, ⊎_elim, is_xid_continue-ascii, ◌⊎◌, inl, inr, eqb, ltb, ℕ, true, false, ◌||◌, List, [], ◌∷◌, ◌++◌, length, length-append, refl, sym, ap, ◌∙◌, append_assoc, append-nil, arith, codes, list_all, chars, IsUtf8, is_empty, bool_text, is_bool, Derivation, a_bool, literal_parse, PrefixGoesOn, MalformedStay, AnswerStays, AnswerChanges, OpensNever, OpensLater, is_open_prefix, is_open_front, is_quoted_line_feed, after_opened, first_name, after_name, after_hashes, begins_lifetime, opens_bytes, opens_c_string, opens, may_follow, HasPrefix, HasNoPrefix, pointwise, IsText, is_text, Begins, first_run, and_left, cases_Bool, true≢false, false≢true, false_from_ne_true, nat_tests, append_cancel_left, is_xid_start-ascii, some_bool}
+use Rattle.litrs_prefix.proofs.Words.{◌≡◌, ⊎_elim, is_xid_continue-ascii, ◌⊎◌, inl, inr, eqb, ltb, ℕ, true, false, ◌||◌, List, [], ◌∷◌, ◌++◌, length, length-append, refl, sym, ap, ◌∙◌, append_assoc, append-nil, arith, codes, list_all, chars, IsUtf8, is_empty, bool_text, is_bool, Derivation, a_bool, literal_parse, PrefixGoesOn, MalformedStay, AnswerStays, AnswerChanges, OpensNever, OpensLater, is_open_prefix, is_open_front, is_quoted_line_feed, after_opened, first_name, after_name, after_hashes, begins_with_lifetime, opens_bytes, opens_c_string, opens, may_follow, HasPrefix, HasNoPrefix, pointwise, IsText, is_text, Begins, first_run, and_left, cases_Bool, true≢false, false≢true, false_from_ne_true, nat_tests, append_cancel_left, is_xid_start-ascii, some_bool}
 use Rattle.litrs_base.proofs.Chars.{is_text-chars}
 use Rattle.std.proofs.lemmas.Bool.{or_cases, or_parts}
 use Rattle.litrs_grammar.proofs.Laws.Float.{empty-true}
@@ -9,7 +9,7 @@ use Rattle.litrs_prefix.proofs.Names.{Opening, opening}
 use Rattle.litrs_prefix.proofs.Names.Opening.{digit, double, single, raw, bytes, c_string, word_true, word_false}
 use Rattle.litrs_prefix.proofs.LongerTexts.{whole, stays}
 use Rattle.litrs_prefix.proofs.Opened.{opened}
-use Rattle.litrs_prefix.proofs.MeantEnds.{letter_is_taken, opened_stays, raw_stays, lifetime_stays, name_kept, run_whole, x_goes_on, x_begins}
+use Rattle.litrs_prefix.proofs.PieceEnds.{letter_is_taken, opened_stays, raw_stays, lifetime_stays, name_kept, run_whole, x_goes_on, x_begins}
 use Rattle.litrs_prefix.proofs.Unique.{unique}
 use Rattle.litrs_prefix.proofs.MoreText.{goes_on_with, text_parts}
 use Rattle.litrs_prefix.proofs.Pieces.{malformed_of}
@@ -19,8 +19,8 @@ use Rattle.litrs_prefix.proofs.Pieces.{malformed_of}
 -- it is longer if all of the longer text is taken for it
 longer_front : (t : List ℕ) (c : ℕ) (m front : List ℕ) → after_opened (t ++ c ∷ m) ≡ [] → IsMalformedFront t front → IsMalformedFront (t ++ c ∷ m) front → ⊥
 longer_front t c m front taken is longer =
-    let opened = ap length longer.meant.opened in
-    absurd (omega (arith, length-append {A = ℕ}, ap length is.spells, ap length longer.meant.longer, ap length taken))
+    let opened = ap length longer.is_piece.opened in
+    absurd (omega (arith, length-append {A = ℕ}, ap length is.spells, ap length longer.is_piece.longer, ap length taken))
 
 malformed_by : (t more : List ℕ) → opens t ≡ true → HasNoPrefix t → IsText more → ((front : List ℕ) → IsMalformedFront t front → IsMalformedFront (t ++ more) front → ⊥) → AnswerChanges t
 malformed_by t more h absent text differ = (more, text, go)
@@ -125,7 +125,7 @@ hashes_to [] m h = refl
 hashes_to (c ∷ t) m h = grind (arith, hashes_to t m)
 
 -- a `'` after the name makes it a char
-quoted_name : (t : List ℕ) → is_empty (after_name t) ≡ true → begins_lifetime (t ++ 39 ∷ []) ≡ false
+quoted_name : (t : List ℕ) → is_empty (after_name t) ≡ true → begins_with_lifetime (t ++ 39 ∷ []) ≡ false
 quoted_name [] h = and_left _ _ (is_xid_start-ascii 39 (omega arith))
 quoted_name (c ∷ t) h = grind (arith, run_whole t (39 ∷ []), is_xid_continue-ascii)
 

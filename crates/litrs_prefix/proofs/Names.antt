@@ -1,5 +1,5 @@
 -- Names at the front of a text.
-use Rattle.litrs_prefix.proofs.Words.{◌≡◌, ◌⊎◌, ℕ, Bool, true, false, not, List, [], ◌∷◌, ◌++◌, refl, arith, if◌then◌else◌, is_ascii_digit, list_all, is_xid_continue, first_passes, bool_text, is_bool, first_name, after_run, after_name, begins_lifetime, opens_raw, opens_bytes, opens_c_string, opens, ends_suffix, ends_bool, is_suffix, first_run, nat_tests, append_cancel_right, is_xid_start-ascii, is_xid_continue-ascii}
+use Rattle.litrs_prefix.proofs.Words.{◌≡◌, ◌⊎◌, ℕ, Bool, true, false, not, List, [], ◌∷◌, ◌++◌, refl, arith, if◌then◌else◌, is_ascii_digit, list_all, is_xid_continue, first_passes, bool_text, is_bool, first_name, after_run, after_name, begins_with_lifetime, opens_raw, opens_bytes, opens_c_string, opens, ends_suffix, ends_bool, is_suffix, first_run, nat_tests, append_cancel_right, is_xid_start-ascii, is_xid_continue-ascii}
 use Rattle.litrs_prefix.specs.Laws.{SuffixesAreUnique}
 
 pub run_and_rest : (t : List ℕ) → first_run t ++ after_run t ≡ t
@@ -41,7 +41,7 @@ name_is_bool b r = grind (arith, is_xid_start-ascii, is_xid_continue-ascii)
 pub data Opening : List ℕ → Type 0 where
   digit : {c : ℕ} {t : List ℕ} → is_ascii_digit c ≡ true → Opening (c ∷ t)
   double : {t : List ℕ} → Opening (34 ∷ t)
-  single : {t : List ℕ} → begins_lifetime t ≡ false → Opening (39 ∷ t)
+  single : {t : List ℕ} → begins_with_lifetime t ≡ false → Opening (39 ∷ t)
   raw : {t : List ℕ} → opens_raw t ≡ true → Opening (114 ∷ t)
   bytes : {t : List ℕ} → opens_bytes t ≡ true → Opening (98 ∷ t)
   c_string : {t : List ℕ} → opens_c_string t ≡ true → Opening (99 ∷ t)

@@ -3,7 +3,7 @@ use Rattle.litrs_prefix.proofs.Words.{◌≡◌, ℕ, Bool, true, false, not, �
 use Rattle.litrs_prefix.specs.Words.{is_ascii_digit, prefix_len, list_all, first_passes, is_empty, starts_identifier, IntegerParts, IsIntegerOf, is_e, IsFloatOf, is_period, is_decimal_char, ends_suffix, ends_integer, ends_float, is_bare, gives_period, is_ascii_alphabetic, IntegerBase, Decimal, prefix, is_digit_or_underscore, is_suffix, IsInteger, has_prefix, base_of, integer_cut, FloatParts, float_text, fraction_text, is_exponent, is_float_form}
 use Rattle.litrs_grammar.proofs.Laws.Float.{float_is_cut, suffix_no_period}
 use Rattle.litrs_grammar.proofs.FloatCuts.{IsCut, after_decimals}
-use Rattle.litrs_prefix.proofs.Meant.{digits_passed}
+use Rattle.litrs_prefix.proofs.PieceBodies.{digits_passed}
 use Rattle.litrs_prefix.proofs.Names.{same_suffix}
 
 -- a character that does not begin a name is neither a letter nor `_`

@@ -1,6 +1,6 @@
 -- If a literal is at the front of a text, one begins there, and its rest is what follows what opens
 -- there.
-use Rattle.litrs_prefix.proofs.Words.{◌≡◌, ℕ, zero, suc, Bool, true, false, List, ◌∷◌, ◌++◌, refl, sym, ap, ◌∙◌, arith, ◌⊎◌, inl, ◌<◌, [], subst, append_assoc, ◌==◌, is_ascii_digit, first_passes, char_kind, byte_kind, switches_of, quoted_front, raw_front, char_front, starts_identifier, bool_text, plain_char, escaped_char, char_item_text, is_char_item, IsCharLiteral, hashes, raw_closing, RawParts, IsRawLiteral, Derivation, a_bool, an_integer, a_float, a_char, a_byte, IsLiteral, may_follow, ends_bool, ends_suffix, ends_float, HasPrefix, after_hashes, begins_lifetime, opens_raw, opens, after_name, PrefixesOpen, list_all, is_xid_continue, Switches, IsFloatOf, IntegerParts, IsIntegerOf, is_e, IsQuotedLiteral, past_quote, past_single_quote, after_single_quote, after_char, after_closing, after_raw, after_number, after_body, after_opened, StringKind, string_kind, byte_string_kind, c_string_kind, is_suffix, CharItem, CharParts, occurs, StringParts, quoted_parts, raw_parts, IsString, a_string, a_byte_string, a_c_string, string_suffix, prefix, is_digit_or_underscore, is_blank, IntegerBase, Decimal, CharKind, Escape, simple_escape, hex_escape, unicode_escape, escape_text, is_escape, is_hex_or_underscore, FloatParts, Item, plain_item, escape_item, continuation, item_text, is_item, body_text, is_body, QuotedParts, and_parts, or_left, starts_with_digit, first_passes-append, suffix_no_period, nat_tests, is_xid_start-ascii, is_xid_continue-ascii, cut_of_text, hash_len-append}
+use Rattle.litrs_prefix.proofs.Words.{◌≡◌, ℕ, zero, suc, Bool, true, false, List, ◌∷◌, ◌++◌, refl, sym, ap, ◌∙◌, arith, ◌⊎◌, inl, ◌<◌, [], subst, append_assoc, ◌==◌, is_ascii_digit, first_passes, char_kind, byte_kind, switches_of, quoted_front, raw_front, char_front, starts_identifier, bool_text, plain_char, escaped_char, char_item_text, is_char_item, IsCharLiteral, hashes, raw_closing, RawParts, IsRawLiteral, Derivation, a_bool, an_integer, a_float, a_char, a_byte, IsLiteral, may_follow, ends_bool, ends_suffix, ends_float, HasPrefix, after_hashes, begins_with_lifetime, opens_raw, opens, after_name, PrefixesOpen, list_all, is_xid_continue, Switches, IsFloatOf, IntegerParts, IsIntegerOf, is_e, IsQuotedLiteral, past_quote, past_single_quote, after_single_quote, after_char, after_closing, after_raw, after_number, after_body, after_opened, StringKind, string_kind, byte_string_kind, c_string_kind, is_suffix, CharItem, CharParts, occurs, StringParts, quoted_parts, raw_parts, IsString, a_string, a_byte_string, a_c_string, string_suffix, prefix, is_digit_or_underscore, is_blank, IntegerBase, Decimal, CharKind, Escape, simple_escape, hex_escape, unicode_escape, escape_text, is_escape, is_hex_or_underscore, FloatParts, Item, plain_item, escape_item, continuation, item_text, is_item, body_text, is_body, QuotedParts, and_parts, or_left, starts_with_digit, first_passes-append, suffix_no_period, nat_tests, is_xid_start-ascii, is_xid_continue-ascii, cut_of_text, hash_len-append}
 use Rattle.litrs_grammar.proofs.QuotedItems.{escape_second}
 use Rattle.litrs_grammar.proofs.Laws.Float.{starts_digit}
 use Rattle.litrs_base.proofs.Runs.{list_all-append, list_all-weaken}
@@ -8,7 +8,7 @@ use Rattle.litrs_prefix.proofs.Chars.{longer_char, longer_raw, longer}
 use Rattle.litrs_prefix.proofs.Names.{run_after, name_after, bool_after}
 use Rattle.litrs_grammar.proofs.RawCuts.{length_before-body}
 use Rattle.litrs_grammar.proofs.SuffixStart.{suffix_continues}
-use Rattle.litrs_prefix.proofs.Meant.{past_quote_is, past_single_quote_is, digits_passed, number_parts}
+use Rattle.litrs_prefix.proofs.PieceBodies.{past_quote_is, past_single_quote_is, digits_passed, number_parts}
 use Rattle.litrs_prefix.proofs.Numbers.{longer_integer, longer_float, with_rest, float_cut_stays}
 use Rattle.litrs_grammar.proofs.Laws.Raw as raw
 
@@ -19,7 +19,7 @@ open_bool : (b : Bool) (r : List ℕ) → ends_bool r ≡ true → opens (bool_t
 open_bool b r h = grind (arith, is_xid_start-ascii, is_xid_continue-ascii)
 
 -- a char is not a lifetime
-no_lifetime : (a : CharItem) (x : List ℕ) → begins_lifetime (char_item_text a ++ 39 ∷ x) ≡ false
+no_lifetime : (a : CharItem) (x : List ℕ) → begins_with_lifetime (char_item_text a ++ 39 ∷ x) ≡ false
 no_lifetime a x = grind (arith, is_xid_start-ascii, is_xid_continue-ascii)
 
 pub after_all : (n : ℕ) (y : List ℕ) → after_hashes (hashes n ++ 34 ∷ y) ≡ 34 ∷ y

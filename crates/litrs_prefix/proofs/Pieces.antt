@@ -1,11 +1,11 @@
 -- A piece at the front of a text that is refused.
-use Rattle.litrs_prefix.proofs.Words.{◌≡◌, append_assoc, nat_eq, false, is_empty, nat_tests, chars_empty, IsUtf8-drop, length-drop, IsIntegerAndPeriod, IsBareInteger, ◌↔◌, encode_utf8_all, ◌⊎◌, ℕ, ◌+◌, ◌<◌, ◌^◌, List, ◌++◌, length, take, drop, None, sym, ap, subst, inl, inr, ◌∙◌, length-take, [], ◌∷◌, ◌-◌, refl, arith, chars, IsUtf8, IsCharBoundary, byte_len, Derivation, IsLiteral, literal_parse, IsLiteralLen, IsMalformedLen, IsMalformedOrOutOfMemory, IsMeant, HasPrefix, ParseError, IsRefused, IsRefusedOrOutOfMemory, Refusal, span_of, MovesWithin, MalformedPrefix, EndsBefore, IsMalformed, chars-append, encodes-chars, IsUtf8-take, take-append-drop, append_cancel_right, literals_are_unique, cut_at}
+use Rattle.litrs_prefix.proofs.Words.{◌≡◌, append_assoc, nat_eq, false, is_empty, nat_tests, chars_empty, IsUtf8-drop, length-drop, IsIntegerAndPeriod, IsBareInteger, ◌↔◌, encode_utf8_all, ◌⊎◌, ℕ, ◌+◌, ◌<◌, ◌^◌, List, ◌++◌, length, take, drop, None, sym, ap, subst, inl, inr, ◌∙◌, length-take, [], ◌∷◌, ◌-◌, refl, arith, chars, IsUtf8, IsCharBoundary, byte_len, Derivation, IsLiteral, literal_parse, IsLiteralLen, IsMalformedLen, IsMalformedOrOutOfMemory, IsPiece, HasPrefix, ParseError, IsRefused, IsRefusedOrOutOfMemory, Refusal, span_of, MovesWithin, MalformedPrefix, EndsBefore, IsMalformed, chars-append, encodes-chars, IsUtf8-take, take-append-drop, append_cancel_right, literals_are_unique, cut_at}
 use Rattle.std.proofs.lemmas.Str.{chars-IsAscii, encodes-append, encodes-IsAscii}
 use Rattle.litrs_base.proofs.Chars.{ascii_by_test}
 use Rattle.litrs.proofs.MovedRefusals.{refusal_moves}
 use Rattle.litrs_prefix.specs.MayChange.{IsMalformedFront}
 use Rattle.litrs_prefix.proofs.Ends.{front_is}
-use Rattle.litrs_prefix.proofs.MeantPieces.{meant_longer}
+use Rattle.litrs_prefix.proofs.PieceLaws.{piece_longer}
 use Rattle.litrs_prefix.proofs.Unique.{no_literal}
 
 -- the two parts of a text that is cut at a character
@@ -84,17 +84,17 @@ pub malformed_boundary : (bs : List ℕ) (e : MalformedPrefix) → IsUtf8 bs →
 malformed_boundary bs e u is = rw (← is.len) (cut_at bs is.front is.rest u (sym is.spells)).boundary
 
 -- the piece that is one character longer than a literal
-pub meant_next : (bs : List ℕ) (start n : ℕ) (d : Derivation) → IsUtf8 bs → IsCharBoundary bs start → IsCharBoundary bs n → chars (drop n bs) ≡ drop 1 (chars (drop start bs)) →
-    IsMeant (chars bs) (chars (take start bs)) → IsLiteral (chars (take start bs)) d → IsMeant (chars bs) (chars (take n bs))
-meant_next bs start n d u before after left is literal =
+pub piece_next : (bs : List ℕ) (start n : ℕ) (d : Derivation) → IsUtf8 bs → IsCharBoundary bs start → IsCharBoundary bs n → chars (drop n bs) ≡ drop 1 (chars (drop start bs)) →
+    IsPiece (chars bs) (chars (take start bs)) → IsLiteral (chars (take start bs)) d → IsPiece (chars bs) (chars (take n bs))
+piece_next bs start n d u before after left is literal =
     go (chars (drop start bs)) left (parts_spell bs (take start bs) (drop start bs) start u before refl refl)
   where
     front : List ℕ
     front = chars (take start bs)
 
-    go : (r : List ℕ) → chars (drop n bs) ≡ drop 1 r → front ++ r ≡ chars bs → IsMeant (chars bs) (chars (take n bs))
+    go : (r : List ℕ) → chars (drop n bs) ≡ drop 1 r → front ++ r ≡ chars bs → IsPiece (chars bs) (chars (take n bs))
     go [] end old = rw (front_is bs n front [] u after end old) is
-    go (c ∷ r) end old = rw (front_is bs n (front ++ c ∷ []) r u after end (append_assoc front (c ∷ []) r ∙ old)) (meant_longer (chars bs) front c d is literal)
+    go (c ∷ r) end old = rw (front_is bs n (front ++ c ∷ []) r u after end (append_assoc front (c ∷ []) r ∙ old)) (piece_longer (chars bs) front c d is literal)
 
 -- a text is left after a place before its end
 pub bytes_left : (bs : List ℕ) (n : ℕ) → IsUtf8 bs → IsCharBoundary bs n → nat_eq n (length bs) ≡ false → is_empty (chars (drop n bs)) ≡ false

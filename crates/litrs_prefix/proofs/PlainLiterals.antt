@@ -12,8 +12,8 @@ use Rattle.litrs_lex.proofs.FloatBytes.{chars_after}
 use Rattle.litrs_lex.proofs.RawBytes.{Closing, closing_at, stop_of}
 use Rattle.litrs_prefix.proofs.Chars.{longer_char, longer, longer_raw}
 use Rattle.litrs_prefix.proofs.Judged.{string_at, to_string, string_follows}
-use Rattle.litrs_prefix.proofs.Meant.{hashes_low, closing_here}
-use Rattle.litrs_prefix.proofs.MeantEnds.{ends_at, digits_are}
+use Rattle.litrs_prefix.proofs.PieceBodies.{hashes_low, closing_here}
+use Rattle.litrs_prefix.proofs.PieceEnds.{ends_at, digits_are}
 use Rattle.litrs_prefix.proofs.Numbers.{longer_integer, longer_float}
 use Rattle.litrs_prefix.proofs.Runs.{front_cut}
 

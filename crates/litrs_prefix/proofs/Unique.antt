@@ -1,5 +1,5 @@
 -- A text has at most one literal at its front.
-use Rattle.litrs_prefix.proofs.Words.{◌≡◌, true≢false, ◌⊎◌, inl, inr, ℕ, Bool, true, false, List, [], ◌∷◌, ◌++◌, refl, sym, ap, subst, ◌∙◌, arith, if◌then◌else◌, is_ascii_digit, first_passes, bool_text, is_bool, IntegerParts, Derivation, a_bool, an_integer, a_float, IsLiteral, begins_float, ends_suffix, ends_bool, HasPrefix, PrefixesAreUnique, InvalidLiteral, Refusal, without_span, FloatParts, literal_kind, bool_literal, integer_literal, float_literal, refused_as, parsed_as, dispatch, and_parts, append_cancel_right, starts_with_digit, first_passes-append, dispatch_literal, literals_are_unique}
+use Rattle.litrs_prefix.proofs.Words.{◌≡◌, true≢false, ◌⊎◌, inl, inr, ℕ, Bool, true, false, List, [], ◌∷◌, ◌++◌, refl, sym, ap, subst, ◌∙◌, arith, if◌then◌else◌, is_ascii_digit, first_passes, bool_text, is_bool, IntegerParts, Derivation, a_bool, an_integer, a_float, IsLiteral, begins_with_float, ends_suffix, ends_bool, HasPrefix, PrefixesAreUnique, InvalidLiteral, Refusal, without_span, FloatParts, literal_kind, bool_literal, integer_literal, float_literal, refused_as, parsed_as, dispatch, and_parts, append_cancel_right, starts_with_digit, first_passes-append, dispatch_literal, literals_are_unique}
 use Rattle.litrs_grammar.proofs.Laws.Literal.{is_bool-digit}
 use Rattle.litrs_prefix.proofs.Numbers.{same_integer, has_mark, integer_mark, float_mark}
 use Rattle.litrs_prefix.proofs.Opened.{only_rest}
@@ -21,7 +21,7 @@ pub number_of : (s r : List ℕ) (d : Derivation) → IsLiteral s d → first_pa
 unfolding dispatch
 number_of [] r d h digit = absurd (no_literal d h)
 number_of (c ∷ s) r d h digit =
-    number_kind (begins_float (c ∷ s)) d (sym (dispatch_literal (c ∷ s) d h) ∙ rw (is_bool-digit (c ∷ s) digit, digit) refl)
+    number_kind (begins_with_float (c ∷ s)) d (sym (dispatch_literal (c ∷ s) d h) ∙ rw (is_bool-digit (c ∷ s) digit, digit) refl)
 
 bool_kind : (v : Bool) (e : Refusal) (d : Derivation) → parsed_as (literal_kind d) ≡ (if v then parsed_as bool_literal else refused_as e) → (b : Bool) × (d ≡ a_bool b)
 bool_kind v e d h = grind arith

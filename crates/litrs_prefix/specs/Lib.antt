@@ -2,9 +2,9 @@
 pub mod Prefix
 -- texts in which a literal begins
 pub mod Opens
--- malformed prefixes
+-- malformed prefixes, and the pieces of a text
 pub mod Malformed
-pub mod Meant
+pub mod Piece
 -- the text before a delimiter
 pub mod Until
 -- texts whose literal may change if more text follows

@@ -7,7 +7,7 @@ use Rattle.litrs_base.specs.Text.{byte_len}
 use Rattle.litrs_grammar.specs.Literal.{literal_parse}
 use Rattle.litrs_grammar.specs.Refused.{IsRefused, IsOutOfMemory}
 use Rattle.litrs_prefix.specs.declared.MalformedPrefix.{MalformedPrefix}
-use Rattle.litrs_prefix.specs.Meant.{IsMeant}
+use Rattle.litrs_prefix.specs.Piece.{IsPiece}
 use Rattle.litrs_prefix.specs.Opens.{opens}
 use Rattle.litrs_prefix.specs.Prefix.{HasPrefix, HasNoPrefix}
 
@@ -20,7 +20,7 @@ pub record IsMalformed (t : List ℕ) (e : MalformedPrefix) : Type 0 where
   pub spells : front ++ rest ≡ t
   pub len : byte_len front ≡ e.len
   pub some : 0 < e.len
-  pub meant : IsMeant t front
+  pub is_piece : IsPiece t front
   pub refused : IsRefused literal_parse front e.error
   pub opens : IsTrue (opens t)
   pub none : HasNoPrefix t

@@ -3,7 +3,7 @@ use Rattle.std.specs.Prelude.{◌≡◌, ℕ, Bool, true, false, ◌==◌, ◌&&
 use Rattle.litrs_base.specs.Characters.{single_quote, letter_b, letter_c, letter_r}
 use Rattle.litrs_base.specs.Text.{IsText, is_empty, is_text}
 use Rattle.litrs_grammar.specs.Literal.{Derivation, IsLiteral}
-use Rattle.litrs_prefix.specs.Meant.{IsMeant}
+use Rattle.litrs_prefix.specs.Piece.{IsPiece}
 use Rattle.litrs_prefix.specs.Opens.{after_name, after_hashes, opens}
 use Rattle.litrs_prefix.specs.Prefix.{HasPrefix, HasNoPrefix}
 
@@ -14,7 +14,7 @@ pub record IsMalformedFront (t front : List ℕ) : Type 0 where
   pub spells : front ++ rest ≡ t
   pub opens : IsTrue (opens t)
   pub none : HasNoPrefix t
-  pub meant : IsMeant t front
+  pub is_piece : IsPiece t front
   pub invalid : (d : Derivation) → IsLiteral front d → ⊥
 
 -- An answer of `parse_prefix`, if no allocation fails: no literal begins at the front; this literal
@@ -53,8 +53,8 @@ abbrev pub is_open_prefix : List ℕ → Bool
 is_open_prefix [] = true
 is_open_prefix (c ∷ t) = (c == letter_r) && is_empty (after_hashes t)
 
--- The text is `'` and a name, which `'` makes a char; or the front of a literal with a prefix up to
--- its hashes, which a quote opens.
+-- The text is `'`, alone or with a name, after which `'` begins a char, valid or malformed; or it is
+-- the front of a literal with a prefix up to its hashes, which a quote opens.
 abbrev pub is_open_front : List ℕ → Bool
 is_open_front [] = false
 is_open_front (c ∷ t) =

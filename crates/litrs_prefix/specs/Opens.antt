@@ -40,8 +40,8 @@ is_single_quote c = c == single_quote
 
 -- `true` iff the text after `'` starts with a name that is not followed by `'`, so it is a
 -- lifetime.
-abbrev pub begins_lifetime : List ℕ → Bool
-begins_lifetime t =
+abbrev pub begins_with_lifetime : List ℕ → Bool
+begins_with_lifetime t =
     first_passes starts_identifier t && not (first_passes is_single_quote (after_name t))
 
 -- `true` iff the text after `r`, `br` or `cr` starts with hashes, or none, and `"`.
@@ -65,6 +65,6 @@ opens_bytes (c ∷ t) =
 abbrev pub opens : List ℕ → Bool
 opens [] = false
 opens (c ∷ t) =
-    is_ascii_digit c || (c == double_quote) || ((c == single_quote) && not (begins_lifetime t))
+    is_ascii_digit c || (c == double_quote) || ((c == single_quote) && not (begins_with_lifetime t))
     || ((c == letter_r) && opens_raw t) || ((c == letter_b) && opens_bytes t)
     || ((c == letter_c) && opens_c_string t) || is_bool (first_name (c ∷ t))

@@ -8,7 +8,7 @@ use Rattle.litrs_base.specs.declared.err.ParseError.{ParseError}
 use Rattle.litrs_grammar.specs.Literal.{literal_parse}
 use Rattle.litrs_grammar.specs.Refused.{IsRefusedOrOutOfMemory}
 use Rattle.litrs_prefix.specs.declared.MalformedPrefix.{MalformedPrefix}
-use Rattle.litrs_prefix.specs.Meant.{after_opened}
+use Rattle.litrs_prefix.specs.Piece.{after_opened}
 use Rattle.litrs_prefix.specs.Opens.{opens}
 
 -- `true` iff the character is one of the delimiters.
@@ -21,8 +21,8 @@ from_first delimiters [] = []
 from_first delimiters (c ∷ t) =
     if is_delimiter delimiters c then c ∷ t else from_first delimiters t
 
--- The text in which the delimiter is looked for: that after the literal, valid or malformed, that
--- begins at the front, or all of the text if none begins there.
+-- The text in which the delimiter is looked for: that after the piece at the front, or all of the
+-- text if no literal begins there.
 abbrev pub after_literal : List ℕ → List ℕ
 after_literal t = if opens t then after_opened t else t
 

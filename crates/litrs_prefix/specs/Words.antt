@@ -47,7 +47,7 @@ pub use Rattle.litrs_grammar.specs.Literal.{bool_literal, byte_literal, c_string
 pub use Rattle.litrs_grammar.specs.Literal.{char_literal, float_literal, integer_literal}
 pub use Rattle.litrs_grammar.specs.Literal.{literal_kind, quoted_parts, raw_parts}
 pub use Rattle.litrs_grammar.specs.Literal.{string_literal_of, string_suffix}
-pub use Rattle.litrs_grammar.specs.LiteralRefusals.{begins_float, Dispatch, IsRefusal}
+pub use Rattle.litrs_grammar.specs.LiteralRefusals.{begins_with_float, Dispatch, IsRefusal}
 pub use Rattle.litrs_grammar.specs.LiteralRefusals.{parsed_as, refused_as}
 unfoldable pub use Rattle.litrs_grammar.specs.LiteralRefusals.{dispatch}
 pub use Rattle.litrs_grammar.specs.Quoted.{IsQuotedLiteral, IsQuoted, Item, QuotedParts, body_text}
@@ -78,11 +78,11 @@ pub use Rattle.litrs_prefix.specs.Malformed.{IsMalformedOrOutOfMemory, IsMovedBy
 pub use Rattle.litrs_prefix.specs.Malformed.{IsMarkedAt, IsMalformed, prefix_span}
 pub use Rattle.litrs_prefix.specs.MayChange.{AnswerStays, AnswerChanges, OpensNever, OpensLater}
 pub use Rattle.litrs_prefix.specs.MayChange.{is_open_prefix, is_open_front, is_quoted_line_feed}
-pub use Rattle.litrs_prefix.specs.Meant.{after_opened, IsMeant, after_quoted, after_single_quote}
-pub use Rattle.litrs_prefix.specs.Meant.{after_char, after_closing, after_raw, after_prefixed}
-pub use Rattle.litrs_prefix.specs.Meant.{after_number, after_body}
+pub use Rattle.litrs_prefix.specs.Piece.{after_opened, IsPiece, after_quoted, after_single_quote}
+pub use Rattle.litrs_prefix.specs.Piece.{after_char, after_closing, after_raw, after_prefixed}
+pub use Rattle.litrs_prefix.specs.Piece.{after_number, after_body}
 pub use Rattle.litrs_prefix.specs.Opens.{opens, after_run, after_name, after_hashes, first_name}
-pub use Rattle.litrs_prefix.specs.Opens.{begins_lifetime, is_single_quote, opens_raw}
+pub use Rattle.litrs_prefix.specs.Opens.{begins_with_lifetime, is_single_quote, opens_raw}
 pub use Rattle.litrs_prefix.specs.Opens.{opens_c_string, opens_bytes, first_run}
 pub use Rattle.litrs_prefix.specs.Prefix.{HasPrefix, HasNoPrefix, is_of_suffix, ends_suffix}
 pub use Rattle.litrs_prefix.specs.Prefix.{ends_bool, keeps_period, gives_period, ends_integer}

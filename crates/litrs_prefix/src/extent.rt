@@ -1,6 +1,6 @@
 //! The extent of the literal at the front of a text, valid or malformed.
 ghost use Rattle.std.specs.Prelude.{◌<◌};
-ghost use Rattle.litrs_prefix.specs.Words.{drop, take, IsTrue, IfOk, IfErr, IfSome, IfNone, chars, IsCharBoundary, Derivation, IsOnlyRest, IsLiteralLen, IsMalformedLen, after_opened, IsMeant, opens, HasPrefix, HasNoPrefix};
+ghost use Rattle.litrs_prefix.specs.Words.{drop, take, IsTrue, IfOk, IfErr, IfSome, IfNone, chars, IsCharBoundary, Derivation, IsOnlyRest, IsLiteralLen, IsMalformedLen, after_opened, IsPiece, opens, HasPrefix, HasNoPrefix};
 
 use crate::follow::{follows, integer_follows};
 use crate::malformed::after_opened;
@@ -32,10 +32,7 @@ pub fn opened_len(text: &str) -> Option<usize>
         (d : Derivation) × HasPrefix (chars text.now) d (chars (drop len text.now))) }
     ensures none { IfNone result (HasNoPrefix (chars text.now)) }
 {
-    match opened_extent(text) {
-        Ok(len) => Some(len),
-        Err(_) => None,
-    }
+    opened_extent(text).ok()
 }
 
 /// Returns the length in bytes of the literal at the front of `text`, or as an error the length of
@@ -100,7 +97,7 @@ fn judged_extent(text: &str) -> Result<usize, usize>
 fn malformed_len(text: &str, start: usize) -> usize
     requires boundary { IsCharBoundary text.now start }
     requires some { 0 < start }
-    requires meant { IsMeant (chars text.now) (chars (take start text.now)) }
+    requires is_piece { IsPiece (chars text.now) (chars (take start text.now)) }
     requires opens { IsTrue (opens (chars text.now)) }
     requires none { HasNoPrefix (chars text.now) }
     ensures { IsMalformedLen text.now result }

@@ -41,6 +41,8 @@ pub use may_change::{is_open_front, prefix_goes_on, prefix_may_change};
 pub use opening::{after_name, after_run, begins_name, opens};
 use plain::plain_string;
 use std::alloc::Global;
+use std::error::Error;
+use std::fmt;
 use std::ops::Range;
 pub use until::parse_until;
 
@@ -87,6 +89,19 @@ impl MalformedPrefix {
     }
 }
 
+impl fmt::Display for MalformedPrefix {
+    ghost use Rattle.std.specs.Prelude.{Some};
+    ghost use Rattle.litrs_base.specs.Refusal.{refusal_of, refusal_text};
+
+    ghost output = { λ malformed. Some (refusal_text (refusal_of malformed.error)) };
+
+    fn fmt<W: fmt::Write>(&self, f: &mut fmt::Formatter<W>) -> fmt::Result {
+        self.error.fmt(f)
+    }
+}
+
+impl Error for MalformedPrefix {}
+
 /// Parses the literal at the front of `text`. Returns it with the rest, or `None` if no literal
 /// begins there, for example before a name, a lifetime, a blank or punctuation.
 ///
@@ -100,12 +115,13 @@ impl MalformedPrefix {
 /// begins and none is valid. The spans count from the start of `text`. Returns `OutOfMemory` if the
 /// allocation for the value of the literal at the front fails.
 ///
-/// The malformed prefix of a number, a char or a string that is closed ends after the name that
-/// follows, for example `0b12` in `0b12 + 1`, and all of `"\q"b`. A number has the parts of a
-/// float; the prefix of a base and its digits belong to the name. An unterminated string extends to
-/// the end of the text, an unterminated char or byte to the end of the line. If that is a literal
-/// that the rest may not follow, the malformed prefix is the shortest longer one that is not a
-/// literal: `0x1.` in `0x1.5`, `true"` in `true"a"`.
+/// The malformed prefix is a piece of the text. The piece of a number, or of a char or string that
+/// is closed, ends after the name that follows: `0b12` in `0b12 + 1`, all of `"\q"b`. A number has
+/// the parts of a float, so of `0x1F` the `0` is the number, and `x1F` the name. The piece of a bool
+/// is its name. An unterminated string extends to the end of the text, an unterminated char or byte
+/// to the end of the line. If the piece is a literal that the rest may not follow, the malformed
+/// prefix is the shortest longer one that is not a literal: `0x1.` in `0x1.5`, `true"` in
+/// `true"a"`.
 ///
 /// [ref]: https://doc.rust-lang.org/reference/tokens.html#literals
 pub fn parse_prefix(alloc: Global, text: &str) -> Result<Option<Prefix<'_>>, MalformedPrefix>

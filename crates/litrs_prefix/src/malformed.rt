@@ -10,16 +10,19 @@ use litrs_lex::hashes::hash_len;
 use litrs_lex::raw::body_end;
 use litrs_lex::{Run, StringKind, run_end};
 
-/// Returns the part of `text` after the literal, valid or malformed, that begins at its front:
-/// after the body, its closing, and the name that follows.
+/// Returns the part of `text` after the piece at its front: a number cut like a float, or a body
+/// through its closing, and the name that follows. The literal that [`parse_prefix`] finds may be
+/// shorter, `1` of `1..2`, and the malformed prefix longer, `0x1.` of `0x1.5`.
+///
+/// [`parse_prefix`]: crate::parse_prefix
 pub fn after_opened(text: &str) -> &str
     ensures { chars result.now ≡ after_opened (chars text.now) }
 {
     after_name(after_body(text))
 }
 
-/// Like [`after_opened`], but returns the suffix too.
-#[tactic(auto, using(crate::proofs::Meant::past_quote_is))]
+/// Like [`after_opened`], but the name after the body is in the result too. A bool is such a name.
+#[tactic(auto, using(crate::proofs::PieceBodies::past_quote_is))]
 fn after_body(text: &str) -> &str
     ensures { chars result.now ≡ after_body (chars text.now) }
 {
@@ -35,7 +38,7 @@ fn after_body(text: &str) -> &str
 }
 
 /// Like [`after_body`], for the text after the `b` or `c` that begins a literal.
-#[tactic(auto, using(crate::proofs::Meant::past_quote_is))]
+#[tactic(auto, using(crate::proofs::PieceBodies::past_quote_is))]
 fn after_prefixed(text: &str) -> &str
     ensures { chars result.now ≡ after_prefixed (chars text.now) }
 {
@@ -49,7 +52,7 @@ fn after_prefixed(text: &str) -> &str
 
 /// Returns the part of `text` after the parts of a float: digits, a period and more digits, an
 /// exponent. The prefix of an integer and its digits are left for the suffix.
-#[tactic(auto, using(crate::proofs::Meant::number_parts))]
+#[tactic(auto, using(crate::proofs::PieceBodies::number_parts))]
 fn after_number(text: &str) -> &str
     ensures { chars result.now ≡ after_number (chars text.now) }
 {
@@ -95,7 +98,7 @@ fn after_sign(text: &str) -> &str
 
 /// Returns the part of `text` after the closing quote of a char. Its first character may be a quote
 /// or a line feed, if a quote follows.
-#[tactic(auto, using(crate::proofs::Meant::past_single_quote_is))]
+#[tactic(auto, using(crate::proofs::PieceBodies::past_single_quote_is))]
 fn after_char(text: &str) -> &str
     ensures { chars result.now ≡ after_char (chars text.now) }
 {

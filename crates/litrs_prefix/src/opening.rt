@@ -1,6 +1,6 @@
 //! Tests whether a literal begins at the front of a text, and the names there.
 ghost use Rattle.std.specs.Prelude.{◌≡◌, ◌==◌};
-ghost use Rattle.litrs_prefix.specs.Words.{Bool, length, IsTrue, IsFalse, IfSome, IfNone, chars, begins_with, first_passes, bool_text, is_bool, first_name, begins_lifetime, opens_raw, opens_c_string, opens_bytes, opens, is_xid_continue, is_empty, starts_identifier, IsEndOf, after_run, after_name, after_hashes};
+ghost use Rattle.litrs_prefix.specs.Words.{Bool, length, IsTrue, IsFalse, IfSome, IfNone, chars, begins_with, first_passes, bool_text, is_bool, first_name, begins_with_lifetime, opens_raw, opens_c_string, opens_bytes, opens, is_xid_continue, is_empty, starts_identifier, IsEndOf, after_run, after_name, after_hashes};
 
 use litrs_base::split_first_char;
 use litrs_lex::hashes::hash_len;
@@ -17,7 +17,7 @@ pub fn opens(text: &str) -> bool
         Some((c, rest)) => {
             c.is_ascii_digit()
                 || c == '"'
-                || (c == '\'' && !begins_lifetime(rest))
+                || (c == '\'' && !begins_with_lifetime(rest))
                 || (c == 'r' && opens_raw(rest))
                 || (c == 'b' && opens_bytes(rest))
                 || (c == 'c' && opens_c_string(rest))
@@ -28,8 +28,8 @@ pub fn opens(text: &str) -> bool
 }
 
 /// Returns `true` if `text` starts with a name before no `'`, as after the `'` of a lifetime.
-fn begins_lifetime(text: &str) -> bool
-    ensures { result ≡ begins_lifetime (chars text.now) }
+fn begins_with_lifetime(text: &str) -> bool
+    ensures { result ≡ begins_with_lifetime (chars text.now) }
 {
     matches!(split_first_char(text), Some((c, _)) if begins_name(c))
         && !begins_with(after_name(text), '\'')

@@ -14,7 +14,8 @@ use std::alloc::Global;
 /// delimiter, or is empty if there is none.
 ///
 /// A delimiter within the literal at the front, such as the comma of `"a,b", 2`, does not count. It
-/// is looked for after the closing quote and the name that follows. The white space before it, as
+/// is looked for in the text that [`after_opened`](crate::after_opened) returns: after the closing
+/// quote and the name that follows, and after the period of `1..2`. The white space before it, as
 /// [`str::trim_end`] knows it, belongs neither to the literal nor to the rest.
 ///
 /// [`parse_prefix_at`](crate::parse_prefix_at) takes `1` of `1.e4, 2`, as Rust does. This call

@@ -13,7 +13,7 @@ use Rattle.litrs_base.specs.Text.{first_passes, begins_with}
 use Rattle.litrs_base.proofs.Begins.{begins_with-split}
 use Rattle.litrs_base.proofs.Chars.{begins_with-chars}
 use Rattle.litrs_grammar.specs.Literal.{Derivation, a_bool, an_integer, a_float, a_char, a_byte, a_string, a_byte_string, a_c_string, StringParts, quoted_parts, raw_parts, IsString, IsLiteral, LiteralKind, bool_literal, integer_literal, float_literal, char_literal, byte_literal, c_string_literal, literal_kind, kind_parse, IsLiteralOf, string_literal_of}
-use Rattle.litrs_grammar.specs.LiteralRefusals.{Dispatch, begins_float, refused_as, parsed_as, dispatch}
+use Rattle.litrs_grammar.specs.LiteralRefusals.{Dispatch, begins_with_float, refused_as, parsed_as, dispatch}
 use Rattle.litrs_base.specs.Quotes.{quoted_front, raw_front}
 use Rattle.litrs_base.specs.declared.quotes.StringKind.{StringKind}
 use Rattle.litrs_base.specs.declared.quotes.StringKind.TheVariants.{String as string_kind, ByteString as byte_string_kind, CString as c_string_kind}
@@ -42,7 +42,7 @@ no_token t kind is none k r =
 -- Numbers
 
 digit_row : (t : List ℕ) (v : Bool) → first_passes is_ascii_digit t ≡ true →
-    begins_float t ≡ v → dispatch t ≡ parsed_as (if v then float_literal else integer_literal)
+    begins_with_float t ≡ v → dispatch t ≡ parsed_as (if v then float_literal else integer_literal)
 unfolding dispatch
 digit_row t true digit float =
     rw (not_empty_by_first is_ascii_digit t digit, is_bool-digit t digit, digit, float) refl
@@ -53,7 +53,7 @@ pub no_number : (bs : List ℕ) (e : ParseError) → IsUtf8 bs → first_passes 
     IsRefused (kind_parse (number_kind (chars bs))) (chars bs) e → IsNoLiteralToken (chars bs)
 no_number bs e u digit refused =
     no_token (chars bs) (number_kind (chars bs))
-    (digit_row (chars bs) (begins_float (chars bs)) (digit-chars bs u ∙ digit) refl) refused.none
+    (digit_row (chars bs) (begins_with_float (chars bs)) (digit-chars bs u ∙ digit) refl) refused.none
 
 -- Chars and bytes
 

@@ -10,7 +10,7 @@ use std::marker::Model;
 pub enum Spacing {
     /// More punctuation follows directly, for example after the `+` of `+=`.
     Joint,
-    /// Another token or whitespace follows.
+    /// No punctuation follows directly.
     Alone,
 }
 

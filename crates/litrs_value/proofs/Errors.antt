@@ -14,7 +14,7 @@ use Rattle.litrs_value.specs.declared.value_type.ValueType.{ValueType}
 use Rattle.litrs_value.specs.declared.error.ValueError.{ValueError}
 use Rattle.litrs_value.specs.declared.error.ValueError.TheVariants.{Malformed, Kind, Sign, Suffix, OutOfRange, Memory}
 
--- all of the text is marked unless it is malformed or its suffix is meant
+-- all of the text is marked unless it is malformed or the error is in its suffix
 pub other_marked : (t : List ℕ) (e : ValueError) → ((p : ParseError) → e ≡ Malformed p → ⊥) → ((type : ValueType) (len : ℕ) → e ≡ Suffix type len → ⊥)
     → marked t e ≡ record { start = 0; end = byte_len t }
 other_marked t (Malformed p) none short = absurd (none p refl)

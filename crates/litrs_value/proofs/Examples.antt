@@ -3,7 +3,7 @@ use Rattle.std.specs.Prelude.{ℕ, Bool, List, IsTrue}
 use Rattle.litrs.specs.Allocation.{allocates, takes_memory}
 use Rattle.litrs.specs.Literal.{Derivation, IsLiteral}
 use Rattle.litrs.specs.declared.ParseError.{ParseError}
-use Rattle.litrs_prefix.specs.Meant.{IsMeant}
+use Rattle.litrs_prefix.specs.Piece.{IsPiece}
 use Rattle.litrs_prefix.specs.Opens.{opens}
 use Rattle.litrs_prefix.specs.Prefix.{HasPrefix, HasNoPrefix}
 use Rattle.litrs_value.specs.Kinds.{Fits}
@@ -16,7 +16,7 @@ use Rattle.litrs_value.specs.declared.value_type.ValueType.{ValueType}
 -- a malformed prefix is that of a text where a literal begins and none is valid
 malformed_front :
     (t front rest : List ℕ) (e : ParseError) → IsFrontFor (Malformed e) t front rest →
-    IsTrue (opens t) × HasNoPrefix t × IsMeant t front
+    IsTrue (opens t) × HasNoPrefix t × IsPiece t front
 malformed_front t front rest e is = is
 
 -- an error of memory is about the literal at the front

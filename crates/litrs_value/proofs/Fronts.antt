@@ -15,7 +15,7 @@ use Rattle.litrs_grammar.proofs.RefusalKinds.{no_refusal_is_of_memory}
 use Rattle.litrs_lex.proofs.CharCuts.{cut_at}
 use Rattle.litrs_prefix.specs.declared.MalformedPrefix.{MalformedPrefix}
 use Rattle.litrs_prefix.specs.Malformed.{IsMovedBy}
-use Rattle.litrs_prefix.specs.Meant.{IsMeant}
+use Rattle.litrs_prefix.specs.Piece.{IsPiece}
 use Rattle.litrs_prefix.specs.Prefix.{HasPrefix}
 use Rattle.litrs_prefix.proofs.Ends.{end_at, front_is}
 use Rattle.litrs_prefix.proofs.Marks.{cut_in}
@@ -156,8 +156,8 @@ module _ (type : ValueType) (text : List ℕ) (m : MalformedPrefix) (utf8 : IsUt
           moved.refusal ∙ ap (λ k. shifted k (refusal_of o)) (sym sign),
           moved.char_span ∙ ap (λ k. shifted_span k (char_span_of o)) (sym sign),
         ) in
-        let meant = subst (λ (t : List ℕ). IsMeant (chars (unsigned text)) t) (sym pair.1) is.meant in
-        ((error, (is.opens, is.none, meant)), marked_in type text m.len (record { error = Malformed m.error; len = len }) cut error))
+        let is_piece = subst (λ (t : List ℕ). IsPiece (chars (unsigned text)) t) (sym pair.1) is.is_piece in
+        ((error, (is.opens, is.none, is_piece)), marked_in type text m.len (record { error = Malformed m.error; len = len }) cut error))
     | inr is ↦ absurd (other (ap (λ (r : Refusal). r.kind) moved.refusal ∙ ap (λ (r : Refusal). r.kind) is.refused.error))
   ]
 

@@ -10,5 +10,6 @@ mod Suffixes
 mod Errors
 mod Marks
 mod Fronts
+pub mod NoValue
 -- examples
 mod Examples

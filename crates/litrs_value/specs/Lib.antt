@@ -12,5 +12,7 @@ pub mod Refuses
 pub mod Reads
 -- texts that start with a value
 pub mod Prefixes
+-- laws
+pub mod Laws
 -- the text of an error
 pub mod ErrorText

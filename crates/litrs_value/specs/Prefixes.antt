@@ -3,7 +3,7 @@ use Rattle.std.specs.Prelude.{ℕ, List, take, drop, IsTrue}
 use Rattle.std.specs.Str.{chars, IsCharBoundary}
 use Rattle.litrs.specs.CharEnd.{IsCutBy}
 use Rattle.litrs.specs.Literal.{Derivation}
-use Rattle.litrs_prefix.specs.Meant.{IsMeant}
+use Rattle.litrs_prefix.specs.Piece.{IsPiece}
 use Rattle.litrs_prefix.specs.Opens.{opens}
 use Rattle.litrs_prefix.specs.Prefix.{HasPrefix, HasNoPrefix}
 use Rattle.litrs_value.specs.Reads.{unsigned, IsValueError, marked}
@@ -15,7 +15,7 @@ use Rattle.litrs_value.specs.declared.error.ValueError.TheVariants.{Malformed}
 -- The front of a text after its sign is the one that an error is about. This is the literal there,
 -- or the malformed prefix if a literal begins there and none is valid.
 abbrev pub IsFrontFor : ValueError → (t front rest : List ℕ) → Type 0
-IsFrontFor (Malformed e) t front rest = IsTrue (opens t) × HasNoPrefix t × IsMeant t front
+IsFrontFor (Malformed e) t front rest = IsTrue (opens t) × HasNoPrefix t × IsPiece t front
 IsFrontFor e t front rest = (d : Derivation) × HasPrefix t d rest
 
 -- The error is that of the first `len` bytes of the text, which are the front that it is about.

@@ -23,7 +23,7 @@ use std::borrow::CowStr;
 /// string is quoted and contains a backslash.
 ///
 /// For example, `"a"` is the borrowed `a`, and `"a\n"` an owned text. It allocates only if the
-/// parse does: for escapes, and for a C string, which is not a string.
+/// parse does: for a quoted string or byte string with a backslash, and for a C string.
 ///
 /// # Errors
 ///

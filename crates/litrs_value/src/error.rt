@@ -11,7 +11,8 @@ use std::error::Error;
 use std::fmt;
 use std::ops::Range;
 
-/// An error: why a text has no value of a type. If several variants apply, it is the first.
+/// An error: a text has no value of a type, or an allocation failed. Of the variants before `Memory`
+/// it is the first that applies. `Memory` may be returned in place of any but `Malformed`.
 #[derive(Debug, Drop)]
 pub enum ValueError {
     /// The text, without its sign, is not a literal. Spans count from the start of the text.
@@ -28,7 +29,7 @@ pub enum ValueError {
         /// The kind of the literal.
         found: LiteralKind,
     },
-    /// The suffix is not the name of the type: `1u8` as a `u16`.
+    /// The type does not allow the suffix: `1u8` as a `u16`, `b'a'u8` as a `u8`.
     Suffix {
         /// The type.
         expected: ValueType,

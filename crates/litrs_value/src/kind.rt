@@ -50,10 +50,7 @@ impl LiteralKind {
     pub fn is_number(self) -> bool
         ensures { result ≡ is_number self }
     {
-        match self {
-            LiteralKind::Integer | LiteralKind::Float => true,
-            _ => false,
-        }
+        matches!(self, LiteralKind::Integer | LiteralKind::Float)
     }
 }
 

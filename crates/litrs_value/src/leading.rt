@@ -90,6 +90,7 @@ fn leading_bits(base: IntegerBase, main: &[u8]) -> Leading
         more: false,
         shift: 0,
     };
+    // The invariant counts the bytes by `i`.
     for (i, byte) in main.iter().enumerate() {
         if *byte == b'_' {
             continue;

@@ -6,7 +6,7 @@
 //! | [`read`] | a text that is one literal, with a minus sign before a number |
 //! | [`read_prefix`] | the value at the front of a longer text |
 //! | [`FromLiteral::from_literal`] | a literal that is already parsed |
-//! | [`read_str`], [`into_str`] | a string, borrowed from its text if it has no escape |
+//! | [`read_str`], [`into_str`] | a string, borrowed from its text unless it is quoted and has a backslash |
 //! | [`float`], [`integer_float`] | a float or an integer literal as a float, whatever its suffix |
 //!
 //! | Type | Literals |
@@ -19,8 +19,9 @@
 //! | `Vec<u8>` | `b"a\xff"`, `c"a"` without its closing zero |
 //! | [`CString`](litrs::CString) | `c"a"` |
 //!
-//! A suffix must be the name of the type. A [`ValueError`] says why a text has no value of a type,
-//! and which part of the text to mark.
+//! Only a number may have a suffix: the name of the type, for an integer at a float type only in
+//! base ten. A [`ValueError`] says why a text has no value of a type, and which part of the text to
+//! mark.
 //!
 //! ```
 //! use litrs_value::{ValueError, read};
@@ -44,6 +45,7 @@ mod floats;
 mod from_literal;
 mod integers;
 mod kind;
+pub mod laws;
 mod leading;
 mod prefix;
 mod reading;

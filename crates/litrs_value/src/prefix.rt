@@ -24,7 +24,7 @@ use std::fmt;
 use std::ops::Range;
 
 /// An error: a literal begins at the front of a text, and the text does not start with a value of
-/// the type.
+/// the type, or an allocation failed.
 #[derive(Debug, Drop)]
 pub struct PrefixError {
     /// The error of [`read`](crate::read) for the first `len` bytes of the text.

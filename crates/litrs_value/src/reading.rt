@@ -15,8 +15,9 @@ use std::alloc::Global;
 /// Reads a text that is one literal, or a minus sign and a number, as a value of type `T`.
 ///
 /// For example, `-0x10` is the `i64` -16, `1_0.5e-1f32` the `f32` 1.05, `3` the `f64` 3, and `b'a'`
-/// the `u8` 97. Every value of a signed type can be read, the least one too. A suffix must be the
-/// name of the type, and a float must be finite.
+/// the `u8` 97. Every value of a signed type can be read, the least one too. Only a number may
+/// have a suffix: the name of the type, for an integer at a float type only in base ten. A float
+/// must be finite.
 ///
 /// It allocates for a `CString`, for a `String` or `Vec<u8>` that is not empty, and if the parse
 /// does. At a float type it does for a number with underscores, but for an integer only in base ten

@@ -66,8 +66,5 @@ fn suffix_for<B: Text>(ty: ValueType, literal: &Literal<B>) -> &'static str
 pub(crate) fn is_decimal(base: IntegerBase) -> bool
     ensures { result ≡ is_decimal base }
 {
-    match base {
-        IntegerBase::Decimal => true,
-        _ => false,
-    }
+    matches!(base, IntegerBase::Decimal)
 }

@@ -11,7 +11,7 @@ use Rattle.litrs_base.specs.Refusal.{Refusal, without_span, at_byte, spanning}
 use Rattle.litrs_base.specs.Numeral.{numeral, least_of, greatest_of}
 use Rattle.litrs_base.specs.IntegerTypes.{type_name}
 use Rattle.litrs_base.specs.Base.{is_digit}
-use Rattle.litrs_grammar.specs.Suffix.{is_suffix, suffix_refusal}
+use Rattle.litrs_grammar.specs.Suffix.{is_suffix, suffix_kind}
 use Rattle.litrs_grammar.specs.Integer.{IntegerParts, IsIntegerOf, integer_cut, integer_refusal, integer_value}
 use Rattle.litrs_grammar.proofs.Computing.{computing, prefixed}
 
@@ -46,11 +46,11 @@ unfolding computing
 suffixes = (refl, refl, refl)
 
 suffix_refusals :
-    (suffix_refusal (codes "_") ≡ kind.InvalidSuffix)
-    × (suffix_refusal (codes "🦊") ≡ kind.InvalidSuffix)
-    × (suffix_refusal (codes "\u{80}") ≡ kind.InvalidSuffix)
+    (suffix_kind (codes "_") ≡ kind.InvalidSuffix)
+    × (suffix_kind (codes "🦊") ≡ kind.InvalidSuffix)
+    × (suffix_kind (codes "\u{80}") ≡ kind.InvalidSuffix)
     -- the characters beside the letters
-    × (suffix_refusal (codes "`x") ≡ kind.UnexpectedChar)
+    × (suffix_kind (codes "`x") ≡ kind.UnexpectedChar)
 unfolding computing
 suffix_refusals = (refl, refl, refl, refl)
 

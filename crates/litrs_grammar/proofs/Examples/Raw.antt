@@ -5,7 +5,7 @@ use Rattle.litrs_base.specs.declared.err.ParseErrorKind.TheVariants as kind
 use Rattle.litrs_base.specs.Refusal.{Refusal, without_span, spanning, at_byte}
 use Rattle.litrs_base.specs.declared.quotes.StringKind.{StringKind}
 use Rattle.litrs_base.specs.declared.quotes.StringKind.TheVariants.{String as string_kind, ByteString as byte_string_kind, CString as c_string_kind}
-use Rattle.litrs_grammar.specs.Raw.{hashes, raw_value, IsRawLiteral, raw_literal_refusal, raw_refusal, is_raw_char, raw_char_refusal, length_before}
+use Rattle.litrs_grammar.specs.Raw.{hashes, raw_value, IsRawLiteral, raw_literal_refusal, raw_refusal, is_raw_char, raw_char_kind, length_before}
 use Rattle.litrs_grammar.proofs.Computing.{computing, raw}
 
 -- the text is a raw string of the kind, with this number of hashes, this body and this suffix
@@ -44,7 +44,7 @@ unfolding computing
 characters = refl
 
 kinds :
-    raw_char_refusal 13 ≡ kind.CarriageReturn
+    raw_char_kind 13 ≡ kind.CarriageReturn
 unfolding computing
 kinds = refl
 

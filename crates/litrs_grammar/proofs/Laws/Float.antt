@@ -10,7 +10,7 @@ use Rattle.litrs_base.specs.declared.err.ParseErrorKind.{ParseErrorKind}
 use Rattle.litrs_base.specs.declared.err.ParseErrorKind.TheVariants.{UnexpectedChar, NoExponentDigits, UnexpectedIntegerLit}
 use Rattle.litrs_base.specs.Refusal.{without_span, at_byte, spanning, Refusal}
 use Rattle.litrs_base.specs.Text.{is_empty, byte_len, first_passes}
-use Rattle.litrs_grammar.specs.Suffix.{is_suffix, suffix_refusal}
+use Rattle.litrs_grammar.specs.Suffix.{is_suffix, suffix_kind}
 use Rattle.litrs_grammar.specs.Integer.{is_e}
 use Rattle.litrs_grammar.specs.Laws.Float.{FloatsAreDecided}
 use Rattle.litrs_grammar.specs.Float.{FloatParts, fraction_text, float_text, is_decimal_char, is_underscore, is_period, is_sign, is_decimal_literal, is_exponent_number, sign_len, is_exponent, is_float_form, IsFloat, IsFloatOf, float_cut, has_wrong_fraction, float_cut_refusal, float_refusal}
@@ -35,7 +35,7 @@ abbrev pub cut_rows : FloatParts → Option Refusal
 cut_rows d =
     number_rows (is_empty (float_text d)) (first_passes is_ascii_digit (float_text d))
     (float_rows (length d.integer) (length d.integer + length (fraction_text d.fraction)) (length d.integer + length (fraction_text d.fraction) + length d.exponent)
-    (byte_len (float_text d)) (suffix_refusal d.suffix)
+    (byte_len (float_text d)) (suffix_kind d.suffix)
     (has_wrong_fraction (fraction_text d.fraction ++ (d.exponent ++ d.suffix))) (is_some d.fraction) (not (is_empty d.exponent))
     (list_any is_ascii_digit d.exponent) (is_suffix d.suffix))
 

@@ -12,7 +12,7 @@ use Rattle.std.specs.Prelude.{if◌then◌else◌, not}
 use Rattle.litrs_base.specs.declared.integer.IntegerBase.{IntegerBase}
 use Rattle.litrs_base.specs.declared.integer.IntegerBase.TheVariants.{Binary, Octal, Decimal, Hexadecimal}
 use Rattle.litrs_base.specs.Text.{is_empty, byte_len, first_passes, begins_with}
-use Rattle.litrs_grammar.specs.Suffix.{is_suffix, suffix_refusal}
+use Rattle.litrs_grammar.specs.Suffix.{is_suffix, suffix_kind}
 use Rattle.litrs_base.specs.Base.{prefix, is_digit, is_digit_or_underscore}
 use Rattle.litrs_base.specs.Derivations.{IsOnlyDerivation, HasNoDerivation}
 use Rattle.litrs_grammar.specs.Integer.{IntegerParts, integer_text, IsInteger, IsIntegerOf, is_e, has_prefix, base_of, integer_cut, integer_cut_refusal, integer_refusal}
@@ -204,7 +204,7 @@ derivable t free =
     let d = cut_with (base_of t) t in
     let cut_free : integer_cut_refusal d ≡ None = ap integer_cut_refusal (sym (integer_cut-is t)) ∙ rows.2 in
     let facts = integer_rows-None (byte_len (prefix d.base)) (byte_len (prefix d.base ++ d.main)) (byte_len (integer_text d))
-    (is_suffix d.suffix) (first_passes is_ascii_digit d.suffix) (suffix_refusal d.suffix)
+    (is_suffix d.suffix) (first_passes is_ascii_digit d.suffix) (suffix_kind d.suffix)
     (first_passes is_e d.suffix) (list_any (is_digit d.base) d.main) cut_free in
     let after = drop (length (prefix (base_of t))) t in
     let p = is_digit_or_underscore (base_of t) in

@@ -19,7 +19,7 @@ use Rattle.litrs_grammar.specs.CharByte.{CharParts, IsCharLiteral, char_kind_ref
 use Rattle.litrs_grammar.specs.Quoted.{QuotedParts, IsQuotedLiteral}
 use Rattle.litrs_grammar.specs.Raw.{RawParts, IsRawLiteral, raw_literal_refusal}
 use Rattle.litrs_grammar.specs.Literal.{StringParts, quoted_parts, raw_parts, IsString, Derivation, a_bool, an_integer, a_float, a_char, a_byte, a_string, a_byte_string, a_c_string, IsLiteral, LiteralKind, bool_literal, integer_literal, float_literal, char_literal, byte_literal, string_literal, byte_string_literal, c_string_literal, literal_kind, literal_parse, kind_parse, IsLiteralOf, string_literal_of}
-use Rattle.litrs_grammar.specs.LiteralRefusals.{StringStart, refused_start, quoted_start, raw_start, string_start, string_start_refusal, IsRefusalOfStart, IsStringRefusal, IsKindRefusal, begins_float, Dispatch, refused_as, parsed_as, dispatch, IsRefusalOfDispatch}
+use Rattle.litrs_grammar.specs.LiteralRefusals.{StringStart, refused_start, quoted_start, raw_start, string_start, string_start_refusal, IsRefusalOfStart, IsStringRefusal, IsKindRefusal, begins_with_float, Dispatch, refused_as, parsed_as, dispatch, IsRefusalOfDispatch}
 use Rattle.litrs_grammar.specs.Laws.Literal.{LiteralsAreUnique, TextsAreDecided, LiteralsAreNotRefused, RefusalsAreUnique}
 use Rattle.litrs_grammar.proofs.Laws.Bool.{same_bool}
 use Rattle.litrs_base.proofs.Begins.{begins_with-split, begins_with-append}
@@ -73,7 +73,7 @@ bool_free t b is = ap (λ v. if v then None else Some (without_span InvalidLiter
 
 -- The dispatch names the kind of a literal.
 
-dispatch_digit : (t : List ℕ) (v : Bool) → first_passes is_ascii_digit t ≡ true → begins_float t ≡ v →
+dispatch_digit : (t : List ℕ) (v : Bool) → first_passes is_ascii_digit t ≡ true → begins_with_float t ≡ v →
     dispatch t ≡ (if v then parsed_as float_literal else parsed_as integer_literal)
 unfolding dispatch
 dispatch_digit t v digit float = rw (not_empty_by_first is_ascii_digit t digit, is_bool-digit t digit, digit, float) refl
@@ -143,7 +143,7 @@ unfolding dispatch
 dispatch_refusal P t e empty invalid =
     either_row P (is_empty t) _ _ e (refusal_is P (without_span Empty) e empty)
     (else_row P (is_bool t) bool_literal _ e
-    (either_row P (first_passes is_ascii_digit t) _ _ e (number_row P (begins_float t) e)
+    (either_row P (first_passes is_ascii_digit t) _ _ e (number_row P (begins_with_float t) e)
     (else_row P _ char_literal _ e
     (else_row P _ string_literal _ e
     (else_row P _ byte_literal _ e

@@ -6,10 +6,10 @@ use Rattle.std.proofs.lemmas.List.{take_at, drop_at, length-append, append_assoc
 use Rattle.litrs_base.specs.declared.err.ParseErrorKind.{ParseErrorKind}
 use Rattle.litrs_base.specs.Refusal.{Refusal, without_span, spanning, at_byte}
 use Rattle.litrs_base.specs.Text.{is_empty, byte_len, first_passes}
-use Rattle.litrs_grammar.specs.Suffix.{is_suffix, suffix_refusal}
+use Rattle.litrs_grammar.specs.Suffix.{is_suffix, suffix_kind}
 use Rattle.std.specs.Prelude.{not, if◌then◌else◌}
 use Rattle.litrs_base.specs.declared.err.ParseErrorKind.TheVariants.{InvalidLiteral, TooManyHashes, UnterminatedRawString}
-use Rattle.litrs_grammar.specs.Raw.{is_quote, is_hash, hashes, raw_closing, occurs, is_raw_char, RawParts, raw_text, IsRaw, IsRawOf, hash_len, length_before, raw_char_refusal, raw_body_refusal, raw_refusal}
+use Rattle.litrs_grammar.specs.Raw.{is_quote, is_hash, hashes, raw_closing, occurs, is_raw_char, RawParts, raw_text, IsRaw, IsRawOf, hash_len, length_before, raw_char_kind, raw_body_refusal, raw_refusal}
 use Rattle.litrs_base.specs.Derivations.{IsOnlyDerivation, HasNoDerivation}
 use Rattle.litrs_base.proofs.Runs.{prefix_len_all, all_from_prefix_len}
 use Rattle.litrs_base.proofs.Spans.{none_from}
@@ -17,11 +17,11 @@ use Rattle.litrs_grammar.proofs.RawCuts.{length-hashes, hash_len-append, after_h
 
 -- The rows after the opening quote, by three tests of the text. A character that the body may not
 -- contain precedes the first closing; there is a closing; a suffix follows it.
-abbrev pub raw_body_rows : (place suffix_place : ℕ) (kind suffix_kind : ParseErrorKind) (refused closed suffix : Bool) → Option Refusal
-raw_body_rows place suffix_place kind suffix_kind refused closed suffix =
+abbrev pub raw_body_rows : (place suffix_place : ℕ) (kind kind_of_suffix : ParseErrorKind) (refused closed suffix : Bool) → Option Refusal
+raw_body_rows place suffix_place kind kind_of_suffix refused closed suffix =
     if refused then Some (at_byte place kind)
     else if not closed then Some (without_span UnterminatedRawString)
-    else if not suffix then Some (at_byte suffix_place suffix_kind)
+    else if not suffix then Some (at_byte suffix_place kind_of_suffix)
     else None
 
 -- The rows before it: nothing is after the hashes; there are too many; `"` is after them.
@@ -59,7 +59,7 @@ after_closing n body x =
 pub refusal_of_closed : (unicode allow_nul : Bool) (n start : ℕ) (body x : List ℕ) → occurs (raw_closing n) body ≡ false →
     raw_body_refusal unicode allow_nul n start (body ++ (raw_closing n ++ x))
     ≡ raw_body_rows (start + byte_len (take (prefix_len (is_raw_char unicode allow_nul) body) (body ++ (raw_closing n ++ x)))) (start + (byte_len body + (1 + n)))
-    (raw_char_refusal (slice_index (body ++ (raw_closing n ++ x)) (prefix_len (is_raw_char unicode allow_nul) body))) (suffix_refusal x)
+    (raw_char_kind (slice_index (body ++ (raw_closing n ++ x)) (prefix_len (is_raw_char unicode allow_nul) body))) (suffix_kind x)
     (ltb (prefix_len (is_raw_char unicode allow_nul) body) (length body)) true (is_suffix x)
 unfolding raw_body_refusal
 refusal_of_closed unicode allow_nul n start body x none =
@@ -69,7 +69,7 @@ refusal_of_closed unicode allow_nul n start body x none =
     let after : drop (length (take (length_before (raw_closing n) r) r) + (1 + n)) r ≡ x = ap (λ b. drop (length b + (1 + n)) r) before ∙ after_closing n body x in
     let closed : occurs (raw_closing n) r ≡ true = occurs-body n body x in
     λ j. raw_body_rows (start + byte_len (take (prefix_len ok (before j)) r)) (start + (byte_len (before j) + (1 + n)))
-    (raw_char_refusal (slice_index r (prefix_len ok (before j)))) (suffix_refusal (after j))
+    (raw_char_kind (slice_index r (prefix_len ok (before j)))) (suffix_kind (after j))
     (ltb (prefix_len ok (before j)) (length (before j))) (closed j) (is_suffix (after j))
 
 -- if no row fits
@@ -79,9 +79,9 @@ record NoBodyRow (refused closed suffix : Bool) : Type 0 where
   closing : closed ≡ true
   after : suffix ≡ true
 
-no_body_row : (place suffix_place : ℕ) (kind suffix_kind : ParseErrorKind) (refused closed suffix : Bool) →
-    raw_body_rows place suffix_place kind suffix_kind refused closed suffix ≡ None → NoBodyRow refused closed suffix
-no_body_row place suffix_place kind suffix_kind refused closed suffix h =
+no_body_row : (place suffix_place : ℕ) (kind kind_of_suffix : ParseErrorKind) (refused closed suffix : Bool) →
+    raw_body_rows place suffix_place kind kind_of_suffix refused closed suffix ≡ None → NoBodyRow refused closed suffix
+no_body_row place suffix_place kind kind_of_suffix refused closed suffix h =
     let a = none_from _ _ _ h in
     let b = none_from _ _ _ a.1 in
     let c = none_from _ _ _ b.1 in
@@ -113,7 +113,7 @@ raw_fits_no_row unicode allow_nul start d g =
     let body : raw_body_refusal unicode allow_nul n place (d.body ++ (raw_closing n ++ d.suffix)) ≡ None =
     refusal_of_closed unicode allow_nul n place d.body d.suffix g.body.unclosed
     ∙ (λ j. raw_body_rows (place + byte_len (take (prefix_len ok d.body) (d.body ++ (raw_closing n ++ d.suffix)))) (place + (byte_len d.body + (1 + n)))
-    (raw_char_refusal (slice_index (d.body ++ (raw_closing n ++ d.suffix)) (prefix_len ok d.body))) (suffix_refusal d.suffix) (none_refused j) true (g.suffix j)) in
+    (raw_char_kind (slice_index (d.body ++ (raw_closing n ++ d.suffix)) (prefix_len ok d.body))) (suffix_kind d.suffix) (none_refused j) true (g.suffix j)) in
     refusal_of_hashes unicode allow_nul start n (34 ∷ (d.body ++ (raw_closing n ++ d.suffix))) refl
     ∙ (λ j. raw_rows start n (body j) false (few j) true)
 
@@ -129,7 +129,7 @@ closed_from unicode allow_nul n start r h = (no_body_row _ _ _ _ _ _ _ h).closin
 derivable_closed : (unicode allow_nul : Bool) (start n : ℕ) (t r : List ℕ) → hashes n ++ (34 ∷ r) ≡ t → ltb 255 n ≡ false →
     raw_body_refusal unicode allow_nul n start r ≡ None → ClosingCut n r → (d : RawParts) × IsRawOf unicode allow_nul t d
 derivable_closed unicode allow_nul start n t r spells few h c =
-    let rows = no_body_row _ (start + (byte_len c.before + (1 + n))) _ (suffix_refusal c.after) _ true (is_suffix c.after) (sym (refusal_of_closed unicode allow_nul n start c.before c.after c.unclosed) ∙ (ap (raw_body_refusal unicode allow_nul n start) c.spells ∙ h)) in
+    let rows = no_body_row _ (start + (byte_len c.before + (1 + n))) _ (suffix_kind c.after) _ true (is_suffix c.after) (sym (refusal_of_closed unicode allow_nul n start c.before c.after c.unclosed) ∙ (ap (raw_body_refusal unicode allow_nul n start) c.spells ∙ h)) in
     let d : RawParts = record { hash_count = n; body = c.before; suffix = c.after } in (
       d,
       record {

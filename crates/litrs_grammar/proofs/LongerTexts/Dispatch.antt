@@ -16,7 +16,7 @@ use Rattle.litrs_base.specs.Base.{is_digit_or_underscore}
 use Rattle.litrs_grammar.specs.Bool.{is_bool}
 use Rattle.litrs_grammar.specs.Integer.{integer_refusal, base_of, integer_cut_refusal}
 use Rattle.litrs_grammar.specs.Literal.{LiteralKind, bool_literal, integer_literal, float_literal, char_literal, byte_literal, string_literal, byte_string_literal, c_string_literal}
-use Rattle.litrs_grammar.specs.LiteralRefusals.{Dispatch, refused_as, parsed_as, dispatch, is_float_mark, begins_float, IsKindRefusal}
+use Rattle.litrs_grammar.specs.LiteralRefusals.{Dispatch, refused_as, parsed_as, dispatch, is_float_mark, begins_with_float, IsKindRefusal}
 use Rattle.litrs_base.proofs.Runs.{IsRun, run_of, prefix_len_all}
 use Rattle.litrs_grammar.proofs.Laws.Integer.{prefix_len_front, refusal_of_digit, integer_cut-is, cut_with}
 use Rattle.litrs_grammar.proofs.LongerTexts.Integer.{cut_parts}
@@ -42,7 +42,7 @@ other t =
     else refused_as (without_span InvalidLiteral)
 
 abbrev number : List ℕ → Dispatch
-number t = if begins_float t then parsed_as float_literal else parsed_as integer_literal
+number t = if begins_with_float t then parsed_as float_literal else parsed_as integer_literal
 
 single : (c : ℕ) (x : List ℕ) (k : LiteralKind) (p q r b s : Bool) → (39 == c) ≡ p → (34 == c) ≡ q → (114 == c) ≡ r → (98 == c) ≡ b → (99 == c) ≡ s →
     other (c ∷ []) ≡ parsed_as k → other (c ∷ x) ≡ parsed_as k
@@ -67,11 +67,11 @@ no_bool c r x k h = go (116 == c) (102 == c) refl refl
 
 -- a character follows the leading run
 float_more : (run : List ℕ) (m : ℕ) (s x : List ℕ) → list_all (is_digit_or_underscore Decimal) run ≡ true → is_digit_or_underscore Decimal m ≡ false →
-    begins_float ((run ++ m ∷ s) ++ x) ≡ is_float_mark m
+    begins_with_float ((run ++ m ∷ s) ++ x) ≡ is_float_mark m
 float_more run m s x all stops =
-    ap begins_float (append_assoc run (m ∷ s) x) ∙ float_here run m (s ++ x) all stops
+    ap begins_with_float (append_assoc run (m ∷ s) x) ∙ float_here run m (s ++ x) all stops
   where
-    float_here : (run : List ℕ) (m : ℕ) (s : List ℕ) → list_all (is_digit_or_underscore Decimal) run ≡ true → is_digit_or_underscore Decimal m ≡ false → begins_float (run ++ m ∷ s) ≡ is_float_mark m
+    float_here : (run : List ℕ) (m : ℕ) (s : List ℕ) → list_all (is_digit_or_underscore Decimal) run ≡ true → is_digit_or_underscore Decimal m ≡ false → begins_with_float (run ++ m ∷ s) ≡ is_float_mark m
     float_here run m s all stops =
         ap (λ n. first_passes is_float_mark (drop n (run ++ m ∷ s))) (prefix_len_front (is_digit_or_underscore Decimal) run (m ∷ s) all stops)
         ∙ ap (first_passes is_float_mark) (drop_at run (m ∷ s) (length run) refl)
@@ -116,7 +116,7 @@ number_stays t x k e digit h fault = go (run_of (is_digit_or_underscore Decimal)
     whole run spells all =
         let same : run ≡ t = sym (append-nil run) ∙ spells in
         let all' : list_all (is_digit_or_underscore Decimal) t ≡ true = subst (λ l. list_all (is_digit_or_underscore Decimal) l ≡ true) same all in
-        let shut : begins_float t ≡ false = ap (λ n. first_passes is_float_mark (drop n t)) (prefix_len_all (is_digit_or_underscore Decimal) t all') ∙ ap (first_passes is_float_mark) (drop-all t) in
+        let shut : begins_with_float t ≡ false = ap (λ n. first_passes is_float_mark (drop n t)) (prefix_len_all (is_digit_or_underscore Decimal) t all') ∙ ap (first_passes is_float_mark) (drop-all t) in
         let kind : parsed_as integer_literal ≡ parsed_as k = rw shut at h in
         let is : integer_literal ≡ k = cc in
         let free = plain_digits t all' digit in
@@ -129,8 +129,8 @@ number_stays t x k e digit h fault = go (run_of (is_digit_or_underscore Decimal)
         by : (rest : List ℕ) → r.front ++ rest ≡ t → first_passes (is_digit_or_underscore Decimal) rest ≡ false → number (t ++ x) ≡ parsed_as k
         by [] spells stops = absurd (whole r.front spells r.passes)
         by (m ∷ s) spells stops =
-            let long : begins_float (t ++ x) ≡ is_float_mark m = ap (λ l. begins_float (l ++ x)) (sym spells) ∙ float_more r.front m s x r.passes stops in
-            let short : begins_float t ≡ is_float_mark m = ap begins_float (sym (append-nil t) ∙ ap (λ l. l ++ []) (sym spells)) ∙ float_more r.front m s [] r.passes stops in
+            let long : begins_with_float (t ++ x) ≡ is_float_mark m = ap (λ l. begins_with_float (l ++ x)) (sym spells) ∙ float_more r.front m s x r.passes stops in
+            let short : begins_with_float t ≡ is_float_mark m = ap begins_with_float (sym (append-nil t) ∙ ap (λ l. l ++ []) (sym spells)) ∙ float_more r.front m s [] r.passes stops in
             ap (λ b. if b then parsed_as float_literal else parsed_as integer_literal) (long ∙ sym short) ∙ h
 
 -- a text that a kind's own table refuses is dispatched alike whatever is appended
@@ -203,7 +203,7 @@ undispatched_front (c ∷ r) x d e h lit = go (is_bool (c ∷ (r ++ x))) (is_boo
     go : (l b n : Bool) → is_bool (c ∷ (r ++ x)) ≡ l → is_bool (c ∷ r) ≡ b → is_ascii_digit c ≡ n → undispatched_goes_on (c ∷ r) ≡ true
     go true b n is_l is_b is_n = let whole = some_bool (c ∷ (r ++ x)) is_l in or_left _ _ (bool_front (c ∷ r) x whole.0 whole.1)
     go false true n is_l is_b is_n = absurd (let f : parsed_as bool_literal ≡ refused_as e = sym (if_true (is_bool (c ∷ r)) _ _ is_b) ∙ h in cc)
-    go false false true is_l is_b is_n = absurd (number_named (begins_float (c ∷ r)) e (sym (if_false (is_bool (c ∷ r)) _ _ is_b ∙ if_true (is_ascii_digit c) _ _ is_n) ∙ h))
+    go false false true is_l is_b is_n = absurd (number_named (begins_with_float (c ∷ r)) e (sym (if_false (is_bool (c ∷ r)) _ _ is_b ∙ if_true (is_ascii_digit c) _ _ is_n) ∙ h))
     go false false false is_l is_b is_n =
         undispatched_other c r x k e (sym (if_false (is_bool (c ∷ r)) _ _ is_b ∙ if_false (is_ascii_digit c) _ _ is_n) ∙ h)
         (sym (if_false (is_bool (c ∷ (r ++ x))) _ _ is_l ∙ if_false (is_ascii_digit c) _ _ is_n) ∙ named)

@@ -10,7 +10,7 @@ use Rattle.std.proofs.lemmas.List.{append_assoc, append-nil, drop_at, drop-appen
 use Rattle.std.proofs.lemmas.List.Folds.{list_any-append}
 use Rattle.litrs_base.proofs.Runs.{list_all-append, list_all-weaken}
 use Rattle.litrs_base.specs.Text.{IsText, byte_len, is_empty, first_passes}
-use Rattle.litrs_grammar.specs.Suffix.{is_suffix, suffix_refusal}
+use Rattle.litrs_grammar.specs.Suffix.{is_suffix, suffix_kind}
 use Rattle.litrs_grammar.specs.Integer.{is_e}
 use Rattle.litrs_grammar.specs.Float.{FloatParts, fraction_text, number_part, float_text, is_decimal_char, is_underscore, is_period, sign_len, is_decimal_literal, is_exponent_number, is_exponent, is_float_form, IsFloat, IsFloatOf, float_cut, has_wrong_fraction, float_refusal}
 use Rattle.litrs_base.specs.declared.err.ParseErrorKind.{ParseErrorKind}
@@ -280,7 +280,7 @@ cut_goes_on d goes_on =
     let none : is_suffix d.suffix ≡ true = ap is_suffix goes_on.suffix ∙ is_suffix-nil in
     let i = length d.integer in
     let f = i + length (fraction_text d.fraction) in
-    rw (right, none) (rows_go_on i f (f + length d.exponent) (byte_len (float_text d)) (suffix_refusal d.suffix) (is_empty (float_text d)) (first_passes is_ascii_digit (float_text d))
+    rw (right, none) (rows_go_on i f (f + length d.exponent) (byte_len (float_text d)) (suffix_kind d.suffix) (is_empty (float_text d)) (first_passes is_ascii_digit (float_text d))
     (is_some d.fraction) (not (is_empty d.exponent)) (list_any is_ascii_digit d.exponent) (start (or_cases _ _ goes_on.start)))
   where
     start : (is_empty (float_text d) ≡ true) ⊎ (first_passes is_ascii_digit d.integer ≡ true) → (is_empty (float_text d) || first_passes is_ascii_digit (float_text d)) ≡ true

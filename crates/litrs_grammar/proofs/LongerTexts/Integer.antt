@@ -13,7 +13,7 @@ use Rattle.litrs_base.specs.declared.integer.IntegerBase.{IntegerBase}
 use Rattle.litrs_base.specs.declared.integer.IntegerBase.TheVariants.{Binary, Octal, Decimal, Hexadecimal}
 use Rattle.litrs_base.specs.Refusal.{spanning, without_span}
 use Rattle.litrs_base.specs.Finality.{is_final}
-use Rattle.litrs_grammar.specs.Suffix.{is_suffix, suffix_refusal}
+use Rattle.litrs_grammar.specs.Suffix.{is_suffix, suffix_kind}
 use Rattle.litrs_base.specs.Text.{byte_len, first_passes, is_empty}
 use Rattle.litrs_base.specs.Base.{prefix, is_digit, is_digit_or_underscore}
 use Rattle.litrs_grammar.specs.Integer.{IntegerParts, integer_text, is_e, base_of, integer_cut, integer_cut_refusal, integer_refusal, IsIntegerOf}
@@ -80,7 +80,7 @@ cut_one c d r is =
 rows_of : (d : IntegerParts) → integer_cut_refusal d ≡ None → (is_suffix d.suffix ≡ true) × (first_passes is_e d.suffix ≡ false) × (list_any (is_digit d.base) d.main ≡ true)
 rows_of d h =
     integer_rows-None (byte_len (prefix d.base)) (byte_len (prefix d.base ++ d.main)) (byte_len (integer_text d))
-    (is_suffix d.suffix) (first_passes is_ascii_digit d.suffix) (suffix_refusal d.suffix) (first_passes is_e d.suffix) (list_any (is_digit d.base) d.main) h
+    (is_suffix d.suffix) (first_passes is_ascii_digit d.suffix) (suffix_kind d.suffix) (first_passes is_e d.suffix) (list_any (is_digit d.base) d.main) h
 
 under_stays : (base : IntegerBase) → is_digit_or_underscore base 95 ≡ true
 under_stays Binary = refl

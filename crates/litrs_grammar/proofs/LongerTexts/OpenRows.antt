@@ -6,7 +6,7 @@ use Rattle.litrs_base.specs.declared.err.ParseErrorKind.TheVariants.{UnexpectedC
 use Rattle.litrs_base.specs.Finality.{is_open}
 use Rattle.litrs_base.specs.Refusal.{Refusal}
 use Rattle.litrs_base.specs.Text.{first_passes}
-use Rattle.litrs_grammar.specs.Suffix.{is_ascii_symbol, suffix_refusal}
+use Rattle.litrs_grammar.specs.Suffix.{is_ascii_symbol, suffix_kind}
 use Rattle.litrs_base.specs.declared.quotes.Switches.{Switches}
 use Rattle.litrs_grammar.specs.Escape.{hex_refusal, inner_refusal, unicode_refusal, escape_refusal}
 use Rattle.litrs_grammar.proofs.Laws.Integer.{number_rows}
@@ -24,7 +24,7 @@ pub shut_kind_if : (b : Bool) (x y : ParseErrorKind) → is_open x ≡ false →
 shut_kind_if true x y f g = f
 shut_kind_if false x y f g = g
 
-pub shut_suffix : (t : List ℕ) → is_open (suffix_refusal t) ≡ false
+pub shut_suffix : (t : List ℕ) → is_open (suffix_kind t) ≡ false
 shut_suffix t = shut_kind_if (first_passes is_ascii_symbol t) UnexpectedChar InvalidSuffix refl refl
 
 pub shut_number : (empty digit : Bool) (o : Option Refusal) → is_open_row o ≡ false → is_open_row (number_rows empty digit o) ≡ false

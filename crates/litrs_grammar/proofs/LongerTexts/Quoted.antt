@@ -8,7 +8,7 @@ use Rattle.litrs_base.specs.Refusal.{Refusal, at_byte, without_span, shifted}
 use Rattle.litrs_base.specs.declared.err.ParseErrorKind.TheVariants.{UnterminatedEscape, UnterminatedString, InvalidSuffix, UnexpectedChar, CarriageReturn, NulByte, NonAsciiInByteLiteral}
 use Rattle.litrs_base.specs.Characters.{is_blank, fits_charset, is_scalar}
 use Rattle.litrs_base.specs.Finality.{is_final, is_open}
-use Rattle.litrs_grammar.specs.Suffix.{is_suffix, suffix_refusal, is_ascii_symbol}
+use Rattle.litrs_grammar.specs.Suffix.{is_suffix, suffix_kind, is_ascii_symbol}
 use Rattle.litrs_base.specs.Text.{byte_len, first_passes}
 use Rattle.litrs_base.specs.declared.quotes.Switches.{Switches}
 use Rattle.litrs_grammar.specs.Escape.{escape_refusal, allows_value, hex_refusal, unicode_refusal, inner_refusal, Escape, simple_escape, hex_escape, unicode_escape, escape_text, is_escape, is_simple, allows_byte, pair_value, is_hex_or_underscore}
@@ -92,12 +92,12 @@ backslash_final w [] x e f h = no_escape w e f h
 backslash_final w (c ∷ t) x e f h = backslash_row w c t x e (c == 10) f h
 
 suffix_row : (q b : Bool) (t x : List ℕ) (e : Refusal) → is_suffix t ≡ b → is_final e.kind ≡ true →
-    (if q && not b then Some (at_byte 1 (suffix_refusal t)) else None) ≡ Some e →
-    (if q && not (is_suffix (t ++ x)) then Some (at_byte 1 (suffix_refusal (t ++ x))) else None) ≡ Some e
+    (if q && not b then Some (at_byte 1 (suffix_kind t)) else None) ≡ Some e →
+    (if q && not (is_suffix (t ++ x)) then Some (at_byte 1 (suffix_kind (t ++ x))) else None) ≡ Some e
 suffix_row false b t x e s f h = cc
 suffix_row true true t x e s f h = cc
 suffix_row true false t x e s f h =
-    let same : at_byte 1 (suffix_refusal t) ≡ e = cc in
+    let same : at_byte 1 (suffix_kind t) ≡ e = cc in
     let more = suffix_final t x s (subst (λ r. is_final r.kind ≡ true) (sym same) f) in
     rw more.0 (ap (λ k. Some (at_byte 1 k)) more.1 ∙ h)
 
@@ -169,7 +169,7 @@ closed_escape w [] = refl
 closed_escape w (c ∷ []) = refl
 closed_escape w (c ∷ letter ∷ t) = search (closed_if, closed_hex, closed_unicode)
 
-closed_suffix : (t : List ℕ) → not (is_open (suffix_refusal t)) ≡ true
+closed_suffix : (t : List ℕ) → not (is_open (suffix_kind t)) ≡ true
 closed_suffix t = closed_kind_if (first_passes is_ascii_symbol t) UnexpectedChar InvalidSuffix refl refl
 
 never_open : {A : Type 0} (o : Option Refusal) (e : Refusal) → is_closed o ≡ true → is_open e.kind ≡ true → o ≡ Some e → A
@@ -192,7 +192,7 @@ closed_rows : (w : Switches) (c : ℕ) (t : List ℕ) →
     is_closed (if c == 13 then Some (at_byte 0 CarriageReturn)
     else if not (allows_value w c) then Some (at_byte 0 NulByte)
     else if not (fits_charset w.unicode c) then Some (at_byte 0 NonAsciiInByteLiteral)
-    else if (c == 34) && not (is_suffix t) then Some (at_byte 1 (suffix_refusal t))
+    else if (c == 34) && not (is_suffix t) then Some (at_byte 1 (suffix_kind t))
     else None) ≡ true
 closed_rows w c t = search (closed_if, closed_suffix) depth 8
 
@@ -315,8 +315,8 @@ gone true x y y' e h n = cc
 gone false x y y' e h n = (h, n)
 
 quote_freed : (q a b : Bool) (c : ℕ) (t x : List ℕ) (e : Refusal) → (c == 34) ≡ q → is_suffix t ≡ a → is_suffix (t ++ x) ≡ b →
-    (if q && not a then Some (at_byte 1 (suffix_refusal t)) else None) ≡ Some e →
-    (if q && not b then Some (at_byte 1 (suffix_refusal (t ++ x))) else None) ≡ None → c ∷ t ≡ 34 ∷ 95 ∷ []
+    (if q && not a then Some (at_byte 1 (suffix_kind t)) else None) ≡ Some e →
+    (if q && not b then Some (at_byte 1 (suffix_kind (t ++ x))) else None) ≡ None → c ∷ t ≡ 34 ∷ 95 ∷ []
 quote_freed false a b c t x e q s s' h n = cc
 quote_freed true true b c t x e q s s' h n = cc
 quote_freed true false false c t x e q s s' h n = cc
@@ -332,12 +332,12 @@ rest_freed w c t x e h none = go (c == 92) refl h none
         (if b then backslash_refusal w t else (if c == 13 then Some (at_byte 0 CarriageReturn)
         else if not (allows_value w c) then Some (at_byte 0 NulByte)
         else if not (fits_charset w.unicode c) then Some (at_byte 0 NonAsciiInByteLiteral)
-        else if (c == 34) && not (is_suffix t) then Some (at_byte 1 (suffix_refusal t))
+        else if (c == 34) && not (is_suffix t) then Some (at_byte 1 (suffix_kind t))
         else None)) ≡ Some e →
         (if b then backslash_refusal w (t ++ x) else (if c == 13 then Some (at_byte 0 CarriageReturn)
         else if not (allows_value w c) then Some (at_byte 0 NulByte)
         else if not (fits_charset w.unicode c) then Some (at_byte 0 NonAsciiInByteLiteral)
-        else if (c == 34) && not (is_suffix (t ++ x)) then Some (at_byte 1 (suffix_refusal (t ++ x)))
+        else if (c == 34) && not (is_suffix (t ++ x)) then Some (at_byte 1 (suffix_kind (t ++ x)))
         else None)) ≡ None → RestGoesOn w (c ∷ t)
     go true g r n = subst (λ m. RestGoesOn w (m ∷ t)) (sym (eqb-true c 92 g)) (backslash_freed w t x e r n)
     go false g r n =

@@ -13,8 +13,8 @@ use Rattle.litrs_base.specs.Characters.{is_scalar}
 use Rattle.litrs_base.specs.Refusal.{Refusal, without_span, spanning, at_byte}
 use Rattle.litrs_base.specs.Text.{IsText, byte_len, first_passes, begins_with}
 use Rattle.litrs_base.proofs.Runs.{list_all-weaken, prefix_len_all, IsRun, run_of, last_passes, is_line_feed, last_passes-all, last_passes-append}
-use Rattle.litrs_grammar.specs.Suffix.{is_suffix, suffix_refusal}
-use Rattle.litrs_grammar.specs.Raw.{is_quote, is_hash, hashes, raw_closing, occurs, is_raw_char, IsRawBody, RawParts, raw_text, IsRawOf, hash_len, length_before, raw_char_refusal, raw_body_refusal, raw_refusal}
+use Rattle.litrs_grammar.specs.Suffix.{is_suffix, suffix_kind}
+use Rattle.litrs_grammar.specs.Raw.{is_quote, is_hash, hashes, raw_closing, occurs, is_raw_char, IsRawBody, RawParts, raw_text, IsRawOf, hash_len, length_before, raw_char_kind, raw_body_refusal, raw_refusal}
 use Rattle.litrs_grammar.specs.GoesOn.Raw.{raw_open_parts, IsClosedRaw, RawRestGoesOn, RawGoesOn}
 use Rattle.litrs_grammar.specs.LongerTexts.{BeginsBy, EndsBy}
 use Rattle.litrs_grammar.proofs.Laws.Integer.{prefix_len_front}
@@ -116,7 +116,7 @@ hash_allowed unicode allow_nul c bad = by (is_hash c) refl
 
 -- a character after a body that is not allowed there is refused
 pub stopped_at : (unicode allow_nul : Bool) (n start : ℕ) (front : List ℕ) (c : ℕ) (t : List ℕ) → IsRawBody unicode allow_nul n front → is_raw_char unicode allow_nul c ≡ false →
-    raw_body_refusal unicode allow_nul n start (front ++ c ∷ t) ≡ Some (at_byte (start + byte_len front) (raw_char_refusal c))
+    raw_body_refusal unicode allow_nul n start (front ++ c ∷ t) ≡ Some (at_byte (start + byte_len front) (raw_char_kind c))
 unfolding raw_body_refusal
 stopped_at unicode allow_nul n start front c t grammar bad =
     let ok = is_raw_char unicode allow_nul in
@@ -132,19 +132,19 @@ stopped_at unicode allow_nul n start front c t grammar bad =
     rw (body, allowed, short, taken, character) refl
 
 pub stopped_refusal : (unicode allow_nul : Bool) (n start : ℕ) (t : List ℕ) (x : IsStopped unicode allow_nul n t) →
-    raw_body_refusal unicode allow_nul n start t ≡ Some (at_byte (start + byte_len x.front) (raw_char_refusal x.character))
+    raw_body_refusal unicode allow_nul n start t ≡ Some (at_byte (start + byte_len x.front) (raw_char_kind x.character))
 stopped_refusal unicode allow_nul n start t x =
     ap (raw_body_refusal unicode allow_nul n start) (sym x.spells) ∙ stopped_at unicode allow_nul n start x.front x.character x.after x.grammar x.disallowed
 
 pub closed_refusal : (unicode allow_nul : Bool) (n start : ℕ) (t after : List ℕ) (x : IsClosedRaw unicode allow_nul n t after) →
-    raw_body_refusal unicode allow_nul n start t ≡ (if not (is_suffix after) then Some (at_byte (start + (byte_len x.body + (1 + n))) (suffix_refusal after)) else None)
+    raw_body_refusal unicode allow_nul n start t ≡ (if not (is_suffix after) then Some (at_byte (start + (byte_len x.body + (1 + n))) (suffix_kind after)) else None)
 closed_refusal unicode allow_nul n start t after x =
     let ok = is_raw_char unicode allow_nul in
     let all : ltb (prefix_len ok x.body) (length x.body) ≡ false = le-ltb _ _ (omega (arith, prefix_len_all ok x.body x.grammar.allowed)) in
     ap (raw_body_refusal unicode allow_nul n start) (sym x.spells)
     ∙ refusal_of_closed unicode allow_nul n start x.body after x.grammar.unclosed
     ∙ (λ j. raw_body_rows (start + byte_len (take (prefix_len ok x.body) (x.body ++ (raw_closing n ++ after)))) (start + (byte_len x.body + (1 + n)))
-    (raw_char_refusal (slice_index (x.body ++ (raw_closing n ++ after)) (prefix_len ok x.body))) (suffix_refusal after) (all j) true (is_suffix after))
+    (raw_char_kind (slice_index (x.body ++ (raw_closing n ++ after)) (prefix_len ok x.body))) (suffix_kind after) (all j) true (is_suffix after))
 
 length_before_all : (n : ℕ) (t : List ℕ) → occurs (raw_closing n) t ≡ false → length_before (raw_closing n) t ≡ length t
 length_before_all n [] none = refl
@@ -182,10 +182,10 @@ closed_more unicode allow_nul n t after more x = record {
 -- a final refusal stays
 
 suffix_row : (place : ℕ) (b : Bool) (t more : List ℕ) (r : Refusal) → is_suffix t ≡ b → is_final r.kind ≡ true →
-    (if not b then Some (at_byte place (suffix_refusal t)) else None) ≡ Some r → (if not (is_suffix (t ++ more)) then Some (at_byte place (suffix_refusal (t ++ more))) else None) ≡ Some r
+    (if not b then Some (at_byte place (suffix_kind t)) else None) ≡ Some r → (if not (is_suffix (t ++ more)) then Some (at_byte place (suffix_kind (t ++ more))) else None) ≡ Some r
 suffix_row place true t more r is final h = cc
 suffix_row place false t more r is final h =
-    let same : at_byte place (suffix_refusal t) ≡ r = cc in
+    let same : at_byte place (suffix_kind t) ≡ r = cc in
     let stays = suffix_final t more is (subst (λ e. is_final e.kind ≡ true) (sym same) final) in
     rw stays.0 (ap (λ k. Some (at_byte place k)) stays.1 ∙ h)
 
@@ -254,11 +254,11 @@ hash_len_least : (n : ℕ) (t : List ℕ) → n ≤ hash_len (hashes n ++ t)
 hash_len_least zero t = omega arith
 hash_len_least (suc n) t = omega (arith, hash_len_least n t)
 
-no_suffix_row : (place : ℕ) (b : Bool) (t : List ℕ) (r : Refusal) → (if not b then Some (at_byte place (suffix_refusal t)) else None) ≡ Some r → b ≡ false
+no_suffix_row : (place : ℕ) (b : Bool) (t : List ℕ) (r : Refusal) → (if not b then Some (at_byte place (suffix_kind t)) else None) ≡ Some r → b ≡ false
 no_suffix_row place true t r h = cc
 no_suffix_row place false t r h = refl
 
-suffix_row_free : (place : ℕ) (b : Bool) (t : List ℕ) → (if not b then Some (at_byte place (suffix_refusal t)) else None) ≡ None → b ≡ true
+suffix_row_free : (place : ℕ) (b : Bool) (t : List ℕ) → (if not b then Some (at_byte place (suffix_kind t)) else None) ≡ None → b ≡ true
 suffix_row_free place true t h = refl
 suffix_row_free place false t h = cc
 
@@ -362,7 +362,7 @@ raw_begins unicode allow_nul start t r h = (
 
 -- Open refusals.
 
-shut_character : (c : ℕ) → is_open (raw_char_refusal c) ≡ false
+shut_character : (c : ℕ) → is_open (raw_char_kind c) ≡ false
 shut_character c = search shut_kind_if
 
 not_open : {A : Type 0} (k r : Refusal) → is_open k.kind ≡ false → is_open r.kind ≡ true → Some k ≡ Some r → A
@@ -374,12 +374,12 @@ open_body unicode allow_nul n start t r is h = by (raw_scan unicode allow_nul n 
     by : RawScan unicode allow_nul n t → IsRawBody unicode allow_nul n t
     by (unclosed grammar) = grammar
     by (stopped x) =
-        not_open (at_byte (start + byte_len x.front) (raw_char_refusal x.character)) r (shut_character x.character) is (sym (stopped_refusal unicode allow_nul n start t x) ∙ h)
+        not_open (at_byte (start + byte_len x.front) (raw_char_kind x.character)) r (shut_character x.character) is (sym (stopped_refusal unicode allow_nul n start t x) ∙ h)
     by (closed after x) = suffix (is_suffix after) (sym (closed_refusal unicode allow_nul n start t after x) ∙ h)
       where
-        suffix : (b : Bool) → (if not b then Some (at_byte (start + (byte_len x.body + (1 + n))) (suffix_refusal after)) else None) ≡ Some r → IsRawBody unicode allow_nul n t
+        suffix : (b : Bool) → (if not b then Some (at_byte (start + (byte_len x.body + (1 + n))) (suffix_kind after)) else None) ≡ Some r → IsRawBody unicode allow_nul n t
         suffix true e = cc
-        suffix false e = not_open (at_byte (start + (byte_len x.body + (1 + n))) (suffix_refusal after)) r (shut_suffix after) is e
+        suffix false e = not_open (at_byte (start + (byte_len x.body + (1 + n))) (suffix_kind after)) r (shut_suffix after) is e
 
 rows_open : (start n : ℕ) (few quote : Bool) (o : Option Refusal) (r : Refusal) → is_open r.kind ≡ true → raw_rows start n o false few quote ≡ Some r →
     (few ≡ false) × (quote ≡ true) × (o ≡ Some r)

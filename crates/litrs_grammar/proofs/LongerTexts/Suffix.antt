@@ -5,7 +5,7 @@ use Rattle.std.specs.List.{list_all}
 use Rattle.std.proofs.lemmas.Bool.{and_parts, and_from, eqb-true, both_ways, false≢true, not-true, not-false}
 use Rattle.litrs_base.specs.declared.err.ParseErrorKind.TheVariants.{InvalidSuffix, UnexpectedChar}
 use Rattle.litrs_base.specs.Finality.{is_final}
-use Rattle.litrs_grammar.specs.Suffix.{is_suffix, suffix_refusal, is_ascii_symbol, starts_identifier}
+use Rattle.litrs_grammar.specs.Suffix.{is_suffix, suffix_kind, is_ascii_symbol, starts_identifier}
 use Rattle.litrs_base.specs.Text.{is_empty}
 use Rattle.std.proofs.lemmas.Bool.Decides.{nat_tests}
 use Rattle.std.proofs.lemmas.List.Folds.{list_all-append as all-append}
@@ -50,12 +50,12 @@ unfolding is_suffix
 no_suffix c t h = rw h refl
 
 -- no suffix for a final reason
-pub suffix_final : (t x : List ℕ) → is_suffix t ≡ false → is_final (suffix_refusal t) ≡ true → (is_suffix (t ++ x) ≡ false) × (suffix_refusal (t ++ x) ≡ suffix_refusal t)
+pub suffix_final : (t x : List ℕ) → is_suffix t ≡ false → is_final (suffix_kind t) ≡ true → (is_suffix (t ++ x) ≡ false) × (suffix_kind (t ++ x) ≡ suffix_kind t)
 suffix_final [] x h f = absurd (both_ways _ h is_suffix-nil)
 suffix_final (c ∷ t) x h f = go (is_ascii_symbol c) refl f
   where
     go : (b : Bool) → is_ascii_symbol c ≡ b → is_final (if b then UnexpectedChar else InvalidSuffix) ≡ true →
-        (is_suffix (c ∷ (t ++ x)) ≡ false) × (suffix_refusal (c ∷ (t ++ x)) ≡ suffix_refusal (c ∷ t))
+        (is_suffix (c ∷ (t ++ x)) ≡ false) × (suffix_kind (c ∷ (t ++ x)) ≡ suffix_kind (c ∷ t))
     go true e g = (no_suffix c (t ++ x) (symbol_starts_nothing c e), refl)
     go false e g = cc
 

@@ -9,7 +9,7 @@ use Rattle.litrs_base.specs.declared.err.ParseErrorKind.{ParseErrorKind}
 use Rattle.litrs_base.specs.declared.err.ParseErrorKind.TheVariants.{Empty, UnexpectedChar, DoesNotStartWithDigit, NoExponentDigits, UnexpectedIntegerLit}
 use Rattle.litrs_base.specs.Refusal.{Refusal, IsInText, without_span, spanning, at_byte}
 use Rattle.litrs_base.specs.Text.{is_empty, byte_len}
-use Rattle.litrs_grammar.specs.Suffix.{suffix_refusal}
+use Rattle.litrs_grammar.specs.Suffix.{suffix_kind}
 use Rattle.litrs_grammar.specs.Integer.{is_e}
 use Rattle.litrs_grammar.specs.Float.{FloatParts, fraction_text, number_part, float_text, is_decimal_char, is_period, is_sign, sign_len, IsFloat, IsFloatOf, has_wrong_fraction, float_refusal}
 use Rattle.litrs_base.proofs.Runs.{last_passes, is_line_feed, line_feed_last, last_passes-all, last_passes-both, list_all-append, list_all-weaken}
@@ -117,7 +117,7 @@ cut_rows_within d cut =
     rows_hold (IsInText t) _ _ _ _ _ _ _ _ _ _ _ _ (λ kind. plain_within t kind) (λ some. first_span t DoesNotStartWithDigit some)
     (λ wrong. fraction_span t i (f ++ (p ++ x)) UnexpectedChar refl cut.integer wrong)
     (over_within t (i ++ f) p x _ _ NoExponentDigits spells_if bytes_if (ap (λ n. length i + length f + n) bytes_p))
-    (over_within t ((i ++ f) ++ p) x [] _ _ (suffix_refusal x) (ap (λ y. ((i ++ f) ++ p) ++ y) (append-nil x) ∙ spells_ifp) bytes_ifp (sym bytes_t))
+    (over_within t ((i ++ f) ++ p) x [] _ _ (suffix_kind x) (ap (λ y. ((i ++ f) ++ p) ++ y) (append-nil x) ∙ spells_ifp) bytes_ifp (sym bytes_t))
 
 -- the span of a refusal lies within the text, and starts on a character boundary
 pub float_refusal_within : (t : List ℕ) → ForSome (float_refusal t) (IsInText t)

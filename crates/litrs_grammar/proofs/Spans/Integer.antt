@@ -8,7 +8,7 @@ use Rattle.litrs_base.specs.declared.err.ParseErrorKind.{ParseErrorKind}
 use Rattle.litrs_base.specs.declared.err.ParseErrorKind.TheVariants.{Empty, DoesNotStartWithDigit, InvalidDigit, NoDigits, IntegerSuffixStartingWithE}
 use Rattle.litrs_base.specs.Refusal.{Refusal, without_span, spanning, at_byte, IsInText}
 use Rattle.litrs_base.specs.Text.{is_empty, byte_len, first_passes}
-use Rattle.litrs_grammar.specs.Suffix.{is_suffix, suffix_refusal}
+use Rattle.litrs_grammar.specs.Suffix.{is_suffix, suffix_kind}
 use Rattle.litrs_base.specs.declared.integer.IntegerBase.{IntegerBase}
 use Rattle.litrs_base.specs.declared.integer.IntegerBase.TheVariants.{Binary, Octal, Decimal, Hexadecimal}
 use Rattle.litrs_base.specs.Base.{prefix, is_digit, is_digit_or_underscore}
@@ -48,7 +48,7 @@ cut_within : (t : List ℕ) (e : Refusal) → integer_cut_refusal (integer_cut t
 cut_within t e refusal =
     let d = cut_with (base_of t) t in
     rows_within t (prefix d.base) d.main d.suffix (is_suffix d.suffix) (first_passes is_ascii_digit d.suffix) (first_passes is_e d.suffix)
-    (list_any (is_digit d.base) d.main) (suffix_refusal d.suffix) e (cut-spells t) refl refl
+    (list_any (is_digit d.base) d.main) (suffix_kind d.suffix) e (cut-spells t) refl refl
     (ap integer_cut_refusal (sym (integer_cut-is t)) ∙ refusal)
 
 number_within : (t : List ℕ) (a b : Bool) (r : Option Refusal) (e : Refusal) → is_empty t ≡ a → (r ≡ Some e → IsInText t e) →

@@ -11,8 +11,8 @@ use Rattle.litrs_base.specs.declared.err.ParseErrorKind.{ParseErrorKind}
 use Rattle.litrs_base.specs.declared.err.ParseErrorKind.TheVariants.{InvalidLiteral, TooManyHashes, UnterminatedRawString}
 use Rattle.litrs_base.specs.Refusal.{Refusal, IsInText, without_span, spanning, at_byte}
 use Rattle.litrs_base.specs.Text.{is_empty, byte_len, first_passes}
-use Rattle.litrs_grammar.specs.Suffix.{is_suffix, suffix_refusal}
-use Rattle.litrs_grammar.specs.Raw.{is_quote, is_hash, is_nul, hashes, raw_closing, is_raw_char, raw_value, RawParts, raw_text, IsRaw, length_before, raw_char_refusal, raw_body_refusal, raw_refusal}
+use Rattle.litrs_grammar.specs.Suffix.{is_suffix, suffix_kind}
+use Rattle.litrs_grammar.specs.Raw.{is_quote, is_hash, is_nul, hashes, raw_closing, is_raw_char, raw_value, RawParts, raw_text, IsRaw, length_before, raw_char_kind, raw_body_refusal, raw_refusal}
 use Rattle.litrs_base.proofs.Runs.{last_passes, is_line_feed, last_passes-all, last_passes-append, last_passes-both, list_all-weaken}
 use Rattle.litrs_base.proofs.Spans.{byte_len-append, is_ascii_char, byte_len_ascii, plain_within, over_within, at_within, of_some, of_none}
 use Rattle.litrs_grammar.proofs.SuffixStart.{suffix_last}
@@ -84,10 +84,10 @@ body_within unicode allow_nul t front r n start spells at_start =
     let before : List ℕ = take (length_before (raw_closing n) r) r in
     let good : ℕ = prefix_len (is_raw_char unicode allow_nul) before in
     body_rows_hold (IsInText t) _ _ _ _ _ _ _
-    (λ refused. char_span t front r start good (raw_char_refusal (slice_index r good)) spells at_start
+    (λ refused. char_span t front r start good (raw_char_kind (slice_index r good)) spells at_start
     (omega (arith, ltb-true _ _ refused, length-take-le (length_before (raw_closing n) r) r (length_before_le (raw_closing n) r), length_before_le (raw_closing n) r)))
     (plain_within t UnterminatedRawString)
-    (λ closed h. closed_span t front r start n (suffix_refusal (drop (length before + (1 + n)) r)) spells at_start (closing_cut n r closed) h)
+    (λ closed h. closed_span t front r start n (suffix_kind (drop (length before + (1 + n)) r)) spells at_start (closing_cut n r closed) h)
 
 quoted_within : (unicode allow_nul : Bool) (t front rest : List ℕ) (n start : ℕ) → front ++ rest ≡ t → byte_len front ≡ start → first_passes is_quote rest ≡ true →
     ForSome (raw_body_refusal unicode allow_nul n (start + 1) (drop 1 rest)) (IsInText t)

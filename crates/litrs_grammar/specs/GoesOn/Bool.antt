@@ -4,6 +4,6 @@ use Rattle.std.specs.Prelude.{ℕ, Bool, true, false, ◌||◌, List}
 use Rattle.litrs_base.specs.Text.{begins_with}
 use Rattle.litrs_grammar.specs.Bool.{bool_text}
 
--- `true` or `false` starts with the text, which may be empty.
+-- The text is a prefix of `true` or `false`. It may be empty.
 abbrev pub bool_goes_on : List ℕ → Bool
 bool_goes_on t = begins_with t (bool_text true) || begins_with t (bool_text false)

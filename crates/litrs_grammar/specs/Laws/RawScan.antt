@@ -6,7 +6,7 @@ use Rattle.litrs_base.specs.Characters.{double_quote}
 use Rattle.litrs_base.specs.Finality.{is_final}
 use Rattle.litrs_base.specs.Refusal.{Refusal, at_byte}
 use Rattle.litrs_base.specs.Text.{is_empty, byte_len, begins_with}
-use Rattle.litrs_grammar.specs.Raw.{is_quote, hashes, raw_closing, occurs, is_raw_char, IsRawBody, hash_len, length_before, raw_char_refusal, raw_body_refusal, raw_refusal}
+use Rattle.litrs_grammar.specs.Raw.{is_quote, hashes, raw_closing, occurs, is_raw_char, IsRawBody, hash_len, length_before, raw_char_kind, raw_body_refusal, raw_refusal}
 
 -- Every longer text has the same number of hashes at its front, if any character follows them.
 abbrev pub HashCountsStay : Type 0
@@ -38,7 +38,7 @@ StoppedBodiesAreRefused =
     (unicode allow_nul : Bool) (n start : ℕ) (front : List ℕ) (c : ℕ) (t : List ℕ) →
     IsRawBody unicode allow_nul n front → IsFalse (is_raw_char unicode allow_nul c) →
     raw_body_refusal unicode allow_nul n start (front ++ c ∷ t)
-    ≡ Some (at_byte (start + byte_len front) (raw_char_refusal c))
+    ≡ Some (at_byte (start + byte_len front) (raw_char_kind c))
 
 -- A text refused with a final kind is refused with the same kind and span whatever is appended.
 abbrev pub FinalRawRefusalsStay : Type 0

@@ -8,7 +8,7 @@ use Rattle.litrs_base.specs.declared.quotes.CharKind.{CharKind}
 use Rattle.litrs_base.specs.Refusal.{without_span, at_byte, spanning}
 use Rattle.litrs_base.specs.Text.{first_passes}
 use Rattle.litrs_grammar.specs.CharByte.{closing_refusal, overlong_kind, unterminated_kind}
-use Rattle.litrs_grammar.specs.Suffix.{is_suffix, suffix_refusal}
+use Rattle.litrs_grammar.specs.Suffix.{is_suffix, suffix_kind}
 use Rattle.litrs_lex.proofs.CharByteBytes.{unterminated_row, overlong_row, suffix_row, closed_row, quote_begins}
 use Rattle.litrs_lex.proofs.char.check_closing.Goals as goal
 
@@ -48,5 +48,5 @@ returns-in-Err-clause-table c =
     ∙ (suffix_row c.args.kind c.args.len c.range_from-after.result.now
     (ap (first_passes (λ n. n == 39)) (sym c.as_bytes.ensures.value) ∙ sym c.if-not-begins_with_byte.ensures)
     (ap (λ l. is_suffix (chars l)) (sym c.range_from.ensures.value) ∙ sym c.in-Err.ensures.ok)
-    ∙ (ap (λ l. Some (at_byte (c.args.len + 1) (suffix_refusal (chars l)))) (sym c.range_from.ensures.value)
+    ∙ (ap (λ l. Some (at_byte (c.args.len + 1) (suffix_kind (chars l)))) (sym c.range_from.ensures.value)
     ∙ (ap (λ k. Some (at_byte (c.args.len + 1) k)) (sym c.in-Err.ensures.err) ∙ (let two : c.args.len + 1 + 1 ≡ c.args.len + 2 = omega arith in ap Some (ap (λ n. spanning (c.args.len + 1) n c.in-Err.refusal) two ∙ sym c.in_text.ensures.refusal)))))

@@ -8,7 +8,7 @@ use Rattle.std.proofs.lemmas.Iterator.{YieldsList-from_slice}
 use Rattle.std.proofs.lemmas.Iterator.Search.{any_from_yields_List}
 use Rattle.litrs_base.specs.Refusal.{spanning}
 use Rattle.litrs_base.specs.Text.{is_empty}
-use Rattle.litrs_grammar.specs.Suffix.{is_suffix, suffix_refusal}
+use Rattle.litrs_grammar.specs.Suffix.{is_suffix, suffix_kind}
 use Rattle.litrs_lex.proofs.FloatBytes.{empty_by_length, places_of_cut, refusal_of_cut, row_no_digit, row_suffix, row_integer, row_none}
 use Rattle.litrs_lex.proofs.float.cut_refusal.Goals as goal
 use Rattle.litrs_lex.proofs.float.cut_refusal.Goals.{else-not-is_empty-via-then-not-is_empty+else-not-any, else-not-is_empty-via-else-not-is_empty}
@@ -50,7 +50,7 @@ returns-in-Err c =
     ]) in
     let back : chars (drop cut.end_number bs) ≡ chars c.split_at.result.1.now = ap chars (sym c.split_at.ensures.back) in
     let suffix : is_suffix (chars (drop cut.end_number bs)) ≡ false = ap is_suffix back ∙ sym c.in-Err.ensures.ok in
-    let kind : c.in-Err.kind ≡ suffix_refusal (chars (drop cut.end_number bs)) = c.in-Err.ensures.err ∙ sym (ap suffix_refusal back) in
+    let kind : c.in-Err.kind ≡ suffix_kind (chars (drop cut.end_number bs)) = c.in-Err.ensures.err ∙ sym (ap suffix_kind back) in
     ap (λ k. Some (spanning cut.end_number (length bs) k)) kind ∙ sym (refusal_of_cut cut bs c.utf8.input c.requires.parts ∙ row_suffix _ _ _ _ _ _ _ _ _ wrong digit suffix)
 
 pub returns-then-cut-end_number : goal.returns-then-cut-end_number

@@ -4,7 +4,7 @@ use Rattle.std.specs.Str.{chars, IsUtf8}
 use Rattle.std.proofs.lemmas.Bool.{ne_eqb}
 use Rattle.std.proofs.lemmas.Str.{IsUtf8-drop, IsCharBoundary-from_drop}
 use Rattle.litrs_base.specs.Refusal.{at_byte}
-use Rattle.litrs_grammar.specs.Suffix.{is_suffix, suffix_refusal}
+use Rattle.litrs_grammar.specs.Suffix.{is_suffix, suffix_kind}
 use Rattle.litrs_lex.proofs.RawBytes.{stop_of, closing_of, open_body, refused_body, suffix_refused, body_cut, none_at, cons_at}
 use Rattle.litrs_lex.proofs.raw.cut_body.Goals as goal
 
@@ -72,7 +72,7 @@ returns-in-Err-clause-refused c =
     let closing = closing_of c.args.allowed.unicode c.args.allowed.allow_nul n start place bytes text same c.body_end-end.ensures.stop c.body_end-end.ensures.closing c.if-end-bytes.false c.if-byte-ne34.false in
     let back : chars (drop (place + 1 + n) text) ≡ chars c.split_at.result.1.now = ap chars (sym c.split_at.ensures.back) in
     suffix_refused c.args.allowed.unicode c.args.allowed.allow_nul n start place text utf8 stop closing (ap is_suffix back ∙ sym c.in-Err.ensures.ok)
-    ∙ ap (λ k. Some (at_byte (place + 1 + n) k)) (ap suffix_refusal back ∙ sym c.in-Err.ensures.err)
+    ∙ ap (λ k. Some (at_byte (place + 1 + n) k)) (ap suffix_kind back ∙ sym c.in-Err.ensures.err)
 
 pub overflow_add-place-2 : goal.overflow_add-place-2
 overflow_add-place-2 c =

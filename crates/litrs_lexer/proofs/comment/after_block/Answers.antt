@@ -4,8 +4,7 @@ use Rattle.std.proofs.Common.{◌≡◌, ℕ, suc, ◌+◌, ◌-◌, ◌<◌, �
 use Rattle.std.specs.Str.{chars}
 use Rattle.litrs_prefix.proofs.Ends.{shorter, after_first, end_of_end, not_longer}
 use Rattle.litrs_lexer.specs.Comment.{opens_comment, closes_comment}
-use Rattle.litrs_lexer.specs.Cut.{block_end}
-use Rattle.litrs_lexer.proofs.Blocks.{at_mark, end_nil, end_one, step_on, step_open, step_close, step_last}
+use Rattle.litrs_lexer.proofs.Blocks.{block_end, at_mark, end_nil, end_one, step_on, step_open, step_close, step_last}
 use Rattle.litrs_lexer.proofs.Bodies.{body_at, no_body}
 use Rattle.litrs_lexer.proofs.comment.after_block.Goals as goal
 

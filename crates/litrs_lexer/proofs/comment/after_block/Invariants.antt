@@ -3,8 +3,8 @@ use Rattle.std.proofs.Common.{◌≡◌, ◌+◌, ◌≤◌, length}
 use Rattle.std.specs.Str.{chars}
 use denote.Text.{Utf8}
 use denote.Shadow.{shadow}
-use Rattle.litrs_lexer.specs.Cut.{block_end}
 use Rattle.litrs_prefix.specs.Ends.{IsEndOf}
+use Rattle.litrs_lexer.proofs.Blocks.{block_end}
 use Rattle.litrs_lexer.proofs.comment.after_block.Given as goal
 
 abbrev pub invariant-loop-c : goal.invariant-loop-c

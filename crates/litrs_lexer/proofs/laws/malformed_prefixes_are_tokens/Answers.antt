@@ -12,5 +12,5 @@ returns c = λ t e m other. (
   m.rest,
   m.spells,
   m.len,
-  (and_from (opens t) (not (is_bool (first_name t))) m.opens (ap not other), m.none, (m.front, m.spells, m.meant, m.refused.none)),
+  (and_from (opens t) (not (is_bool (first_name t))) m.opens (ap not other), m.none, (m.front, m.spells, m.is_piece, m.refused.none)),
 )

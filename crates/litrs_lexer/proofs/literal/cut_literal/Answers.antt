@@ -3,7 +3,7 @@ use Rattle.std.proofs.Common.{sym, subst, List, ℕ}
 use Rattle.std.specs.Str.{chars}
 use Rattle.litrs_prefix.specs.Prefix.{HasPrefix}
 use Rattle.litrs_lexer.specs.declared.kind.TokenKind.TheVariants.{Literal, MalformedLiteral}
-use Rattle.litrs_lexer.proofs.Cuts.{opened_parts, cut_at, literal_some, meant_token}
+use Rattle.litrs_lexer.proofs.Cuts.{opened_parts, cut_at, literal_some, piece_token}
 use Rattle.litrs_lexer.proofs.literal.cut_literal.Goals as goal
 
 pub opened_extent-requires : goal.opened_extent-requires
@@ -24,4 +24,4 @@ returns-in-Err-clause-cut c =
     let is = c.in-Err.ensures.malformed in
     let split = c.split_at-in-Err in
     cut_at MalformedLiteral text split.result.1.now n is.some is.boundary split.ensures.back
-    (meant_token text split.result.1.now n c.utf8.text is.boundary split.ensures.back c.requires is.front.none is.front.meant is.front.invalid)
+    (piece_token text split.result.1.now n c.utf8.text is.boundary split.ensures.back c.requires is.front.none is.front.is_piece is.front.invalid)

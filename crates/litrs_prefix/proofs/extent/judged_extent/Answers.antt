@@ -1,7 +1,7 @@
 -- The piece that opens is the literal, or the malformed prefix, or shorter than it.
 use Rattle.litrs_prefix.proofs.Words.{ℕ, List, Some, None, drop, sym, ◌∙◌, chars, IsOnlyRest, after_opened}
 use Rattle.litrs_prefix.proofs.Judged.{judged_prefix, judged_none, malformed_piece}
-use Rattle.litrs_prefix.proofs.MeantEnds.{OpenedAt, opened_at}
+use Rattle.litrs_prefix.proofs.PieceEnds.{OpenedAt, opened_at}
 use Rattle.litrs_prefix.proofs.extent.judged_extent.Goals as goal
 
 -- the literal has the only rest
@@ -27,7 +27,7 @@ malformed_len-requires c =
     record {
       boundary = at.boundary;
       some = at.some;
-      meant = at.meant;
+      is_piece = at.is_piece;
       opens = c.requires.opens;
       none = judged_none c.args.text.now c.split_at.result.0.now c.split_at.result.1.now _ (Some c.in-Some-false.field-0) c.utf8.text at.boundary split.front split.back (only_here _ _ at c.requires.only) c.in-Some-false.ensures (λ e. cc);
     }
@@ -37,4 +37,4 @@ returns-in-None-clause-malformed c =
     let at = (opened_at c.args.text.now c.after_opened.result.now c.utf8.text c.after_opened.utf8 c.requires.opens c.after_opened.ensures).1 in
     let split = c.split_at.ensures in
     let none = judged_none c.args.text.now c.split_at.result.0.now c.split_at.result.1.now _ None c.utf8.text at.boundary split.front split.back (only_here _ _ at c.requires.only) c.in-None.ensures (λ e. cc) in
-    malformed_piece c.args.text.now c.split_at.result.0.now c.split_at.result.1.now _ c.utf8.text at.boundary split.front split.back at.some at.meant c.requires.opens none c.in-None.ensures
+    malformed_piece c.args.text.now c.split_at.result.0.now c.split_at.result.1.now _ c.utf8.text at.boundary split.front split.back at.some at.is_piece c.requires.opens none c.in-None.ensures

@@ -3,7 +3,7 @@ use Rattle.litrs_prefix.proofs.Words.{◌≡◌, ◌<◌, ◌≤◌, ℕ, List, 
 use Rattle.std.proofs.Math.Nat.{eq-or-lt_of_le}
 use Rattle.litrs_prefix.proofs.Judged.{malformed_piece}
 use Rattle.litrs_prefix.proofs.LongerTexts.{whole}
-use Rattle.litrs_prefix.proofs.Pieces.{meant_next}
+use Rattle.litrs_prefix.proofs.Pieces.{piece_next}
 use Rattle.litrs_prefix.proofs.extent.malformed_len.Goals as goal
 
 pub returns-in-None : goal.returns-in-None
@@ -20,7 +20,7 @@ loop-len-preserved c =
     let some : 0 < start = c.loop-len.invariant.2 in
     let is = c.in-Some.ensures in (
       next.ensures.boundary,
-      meant_next text start next.result is.0 c.utf8.text c.loop-len.invariant.0 next.ensures.boundary next.ensures.rest c.loop-len.invariant.1
+      piece_next text start next.result is.0 c.utf8.text c.loop-len.invariant.0 next.ensures.boundary next.ensures.rest c.loop-len.invariant.1
           (subst (λ (l : List ℕ). IsLiteral (chars l) is.0) c.split_at.ensures.front is.1),
       elim (eq-or-lt_of_le here) [
         | inl all ↦ (let end : next.result ≡ start = next.ensures.end (omega arith) in omega arith)

@@ -1,5 +1,5 @@
 -- The law is the lemma.
-use Rattle.litrs_prefix.proofs.MeantPieces.{malformed_unique}
+use Rattle.litrs_prefix.proofs.PieceLaws.{malformed_unique}
 use Rattle.litrs_prefix.proofs.laws.malformed_are_unique.Goals as goal
 
 pub returns : goal.returns

@@ -1,7 +1,7 @@
 -- The search stops at the closing, at a character before which no closing begins, or at the end.
 use Rattle.litrs_prefix.proofs.Words.{◌≡◌, [], ◌∷◌, drop, length, sym, ap, ◌∙◌, arith, drop_all, chars, ne_eqb, and_left, IsCharBoundary-from_drop, begins_with, raw_closing, first_passes, false, after_closing}
 use Rattle.litrs_prefix.specs.Words.{string_kind, is_quote}
-use Rattle.litrs_prefix.proofs.Meant.{closing_later}
+use Rattle.litrs_prefix.proofs.PieceBodies.{closing_later}
 use Rattle.litrs_prefix.proofs.PlainLiterals.{stop_in, closing_in, closing_passed, closed_at}
 use Rattle.litrs_prefix.proofs.malformed.after_closing.Goals as goal
 

@@ -1,6 +1,6 @@
 -- The hashes are counted in bytes.
 use Rattle.litrs_prefix.proofs.Words.{◌≡◌, ℕ, drop, sym, ap, ◌∙◌, chars, prefix_len-chars, is_hash, hash_len, after_closing}
-use Rattle.litrs_prefix.proofs.Meant.{hash_is_ascii}
+use Rattle.litrs_prefix.proofs.PieceBodies.{hash_is_ascii}
 use Rattle.litrs_prefix.proofs.malformed.after_raw.Goals as goal
 
 pub returns : goal.returns

@@ -1,6 +1,6 @@
 -- The hashes are counted in bytes.
 use Rattle.litrs_prefix.proofs.Words.{◌≡◌, ℕ, drop, sym, ap, subst, ◌∙◌, prefix_len, chars, IsCharBoundary, hash_len, is_hash}
-use Rattle.litrs_prefix.proofs.Meant.{hash_is_ascii, hashes_dropped}
+use Rattle.litrs_prefix.proofs.PieceBodies.{hash_is_ascii, hashes_dropped}
 use Rattle.litrs_prefix.proofs.Runs.{ascii_front}
 use Rattle.litrs_prefix.proofs.opening.after_hashes.Goals as goal
 

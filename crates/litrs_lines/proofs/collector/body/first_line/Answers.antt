@@ -10,7 +10,7 @@ use Rattle.litrs_base.specs.declared.err.ParseErrorKind.TheVariants.{Empty, Inva
 use Rattle.litrs_base.specs.Refusal.{refusal, without_span}
 use Rattle.litrs_base.specs.Text.{begins_with}
 use Rattle.litrs_grammar.specs.Literal.{bool_literal, char_literal, byte_literal}
-use Rattle.litrs_grammar.specs.LiteralRefusals.{begins_float, parsed_as, refused_as}
+use Rattle.litrs_grammar.specs.LiteralRefusals.{begins_with_float, parsed_as, refused_as}
 use Rattle.litrs_lines.proofs.OpenBytes.{quoted_opened, raw_opened, raw_unopened}
 use Rattle.litrs_lines.proofs.OpenTexts.{other_is_shut, number_is_shut, word_is_shut, no_string, no_bool, no_char, no_byte}
 use Rattle.litrs_lines.proofs.collector.body.first_line.Goals as goal
@@ -38,7 +38,7 @@ returns-in-Err c =
 pub returns-in-Number : goal.returns-in-Number
 returns-in-Number c =
     let text : List ℕ = c.args.text.now in
-    number_is_shut (chars text) (begins_float text) (c.in-Number.ensures.row ∙ sym (dispatch-chars text c.utf8.text))
+    number_is_shut (chars text) (begins_with_float text) (c.in-Number.ensures.row ∙ sym (dispatch-chars text c.utf8.text))
 
 pub returns-in-Char : goal.returns-in-Char
 returns-in-Char c =

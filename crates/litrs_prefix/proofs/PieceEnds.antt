@@ -1,10 +1,10 @@
 -- The text after the piece that begins at the front of a text is an end of the text, without its
 -- first character, and stays the same before more text.
 use Rattle.litrs_prefix.proofs.Words.{◌≡◌, ℕ, ◌-◌, ◌<◌, ◌≤◌, Bool, true, false, not, ◌&&◌, List, [], ◌∷◌, ◌++◌, take, drop, length, refl, sym, ap, subst, ◌∙◌, ◌+◌, length-append, arith, ◌⊎◌, inl, inr, zero, suc, ◌==◌, if◌then◌else◌, false≢true, and_right, true≢false, nat_tests, take-append-drop, drop_all, is_xid_start-ascii, is_xid_continue-ascii, if_true, if_false, bytes_spell, end_at, end_of_end, front_is, shorter, length-hashes}
-use Rattle.litrs_prefix.specs.Words.{encode_utf8_all, is_ascii_digit, chars, IsUtf8, IsCharBoundary, byte_len, begins_with, first_passes, is_empty, is_decimal_char, starts_identifier, IsEndOf, past_closing, past_single_quote, after_digits, after_fraction, after_exponent, after_sign, after_quoted, after_single_quote, after_char, after_raw, after_prefixed, after_number, after_opened, IsMeant, after_closing, after_body, first_name, after_name, after_hashes, opens, after_run, is_single_quote, begins_lifetime, opens_raw, opens_bytes, opens_c_string, is_xid_continue, is_bool, is_quote, hash_len, raw_closing, is_quoted_line_feed, first_run}
+use Rattle.litrs_prefix.specs.Words.{encode_utf8_all, is_ascii_digit, chars, IsUtf8, IsCharBoundary, byte_len, begins_with, first_passes, is_empty, is_decimal_char, starts_identifier, IsEndOf, past_closing, past_single_quote, after_digits, after_fraction, after_exponent, after_sign, after_quoted, after_single_quote, after_char, after_raw, after_prefixed, after_number, after_opened, IsPiece, after_closing, after_body, first_name, after_name, after_hashes, opens, after_run, is_single_quote, begins_with_lifetime, opens_raw, opens_bytes, opens_c_string, is_xid_continue, is_bool, is_quote, hash_len, raw_closing, is_quoted_line_feed, first_run}
 use Rattle.litrs_prefix.proofs.Ends.{all as whole}
-use Rattle.litrs_prefix.proofs.Meant.{number_parts, past_quote_is, past_single_quote_is, closing_here, closing_later}
-use Rattle.litrs_prefix.proofs.MeantPieces.{meant_first}
+use Rattle.litrs_prefix.proofs.PieceBodies.{number_parts, past_quote_is, past_single_quote_is, closing_here, closing_later}
+use Rattle.litrs_prefix.proofs.PieceLaws.{piece_first}
 use Rattle.litrs_prefix.proofs.Names.{name_and_rest, run_and_rest, Opening, opening}
 use Rattle.litrs_prefix.proofs.Names.Opening.{digit, double, single, raw, bytes, c_string, word_true, word_false}
 
@@ -133,7 +133,7 @@ ends_at bs rest front u v is =
 pub record OpenedAt (bs : List ℕ) (n : ℕ) : Type 0 where
   pub boundary : IsCharBoundary bs n
   pub some : 0 < n
-  pub meant : IsMeant (chars bs) (chars (take n bs))
+  pub is_piece : IsPiece (chars bs) (chars (take n bs))
   pub rest : chars (drop n bs) ≡ after_opened (chars bs)
 
 pub opened_at : (bs rest : List ℕ) → IsUtf8 bs → IsUtf8 rest → opens (chars bs) ≡ true → chars rest ≡ after_opened (chars bs) → (length rest ≤ length bs) × OpenedAt bs (length bs - length rest)
@@ -147,7 +147,7 @@ opened_at bs rest u v opens is =
       record {
         boundary = at.boundary;
         some = omega arith;
-        meant = subst (λ (l : List ℕ). IsMeant (chars bs) l) (sym at.before) (meant_first (chars bs) front piece.spells);
+        is_piece = subst (λ (l : List ℕ). IsPiece (chars bs) l) (sym at.before) (piece_first (chars bs) front piece.spells);
         rest = at.after ∙ is;
       },
     )
@@ -358,11 +358,11 @@ letter_is_taken t h none = grind (arith, body_grows, opening, name_taken, x_end)
 -- a literal begins
 
 -- the end of the name after a `'` decides if it begins a lifetime
-pub lifetime_stays : (t m : List ℕ) → is_empty (after_name t) ≡ false → begins_lifetime (t ++ m) ≡ begins_lifetime t
+pub lifetime_stays : (t m : List ℕ) → is_empty (after_name t) ≡ false → begins_with_lifetime (t ++ m) ≡ begins_with_lifetime t
 lifetime_stays t m h = grind (arith, rest_kept t m)
 
 -- after `'`, if a char begins and something is there
-char_opens : (c : ℕ) (t m : List ℕ) → begins_lifetime (c ∷ t) ≡ false → begins_lifetime (c ∷ (t ++ m)) ≡ false
+char_opens : (c : ℕ) (t m : List ℕ) → begins_with_lifetime (c ∷ t) ≡ false → begins_with_lifetime (c ∷ (t ++ m)) ≡ false
 char_opens c t m h = grind (arith, run_kept t m)
 
 begins_stays : {t : List ℕ} → Opening t → (m : List ℕ) → is_empty (after_opened t) ≡ false → opens (t ++ m) ≡ true

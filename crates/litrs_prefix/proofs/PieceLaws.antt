@@ -1,6 +1,6 @@
 -- The pieces at the front of a text, from what opens on, one character after the other.
 use Rattle.litrs_prefix.proofs.Words.{◌≡◌, inl, inr, ℕ, List, [], ◌∷◌, ◌++◌, refl, sym, ap, subst, ◌∙◌, append_assoc, append-nil, append_cancel_left, append_cancel_right}
-use Rattle.litrs_prefix.specs.Words.{byte_len, Derivation, IsLiteral, literal_parse, MalformedAreUnique, after_opened, IsMeant, HasNoDerivation, refusal_of, IsRefusal}
+use Rattle.litrs_prefix.specs.Words.{byte_len, Derivation, IsLiteral, literal_parse, MalformedAreUnique, after_opened, IsPiece, HasNoDerivation, refusal_of, IsRefusal}
 use Rattle.litrs_grammar.proofs.LongerTexts.Suffix.{front_of}
 
 abbrev pub Holds : (List ℕ → Type 0) → List ℕ → Type 0
@@ -21,8 +21,8 @@ one_more P (m ∷ more) c here before (a ∷ x) d y is =
     subst (λ (k : ℕ). P (k ∷ x)) head
     (one_more (λ (l : List ℕ). P (m ∷ l)) more c here (λ z e w same. before (m ∷ z) e w (ap (λ (l : List ℕ). m ∷ l) same)) x d y tail)
 
-pub meant_first : (t piece : List ℕ) → piece ++ after_opened t ≡ t → IsMeant t piece
-meant_first t piece is = record {
+pub piece_first : (t piece : List ℕ) → piece ++ after_opened t ≡ t → IsPiece t piece
+piece_first t piece is = record {
   piece = piece;
   more = [];
   opened = is;
@@ -30,8 +30,8 @@ meant_first t piece is = record {
   shortest = λ x c y none. absurd (no_end x c y none);
 }
 
-pub meant_longer : (t front : List ℕ) (c : ℕ) (d : Derivation) → IsMeant t front → IsLiteral front d → IsMeant t (front ++ c ∷ [])
-meant_longer t front c d is literal = record {
+pub piece_longer : (t front : List ℕ) (c : ℕ) (d : Derivation) → IsPiece t front → IsLiteral front d → IsPiece t (front ++ c ∷ [])
+piece_longer t front c d is literal = record {
   piece = is.piece;
   more = is.more ++ c ∷ [];
   opened = is.opened;
@@ -41,8 +41,8 @@ meant_longer t front c d is literal = record {
 }
 
 -- the malformed prefix is one piece alone
-pub meant_unique : (t f g r u : List ℕ) → IsMeant t f → IsMeant t g → f ++ r ≡ t → g ++ u ≡ t → HasNoDerivation (IsLiteral f) → HasNoDerivation (IsLiteral g) → f ≡ g
-meant_unique t f g r u m n before after none other =
+pub piece_unique : (t f g r u : List ℕ) → IsPiece t f → IsPiece t g → f ++ r ≡ t → g ++ u ≡ t → HasNoDerivation (IsLiteral f) → HasNoDerivation (IsLiteral g) → f ≡ g
+piece_unique t f g r u m n before after none other =
     let same : m.piece ≡ n.piece = append_cancel_right m.piece n.piece (after_opened t) (m.opened ∙ sym n.opened) in
     let left : m.piece ++ (m.more ++ r) ≡ t = sym (append_assoc m.piece m.more r) ∙ (ap (λ (l : List ℕ). l ++ r) m.longer ∙ before) in
     let right : n.piece ++ (n.more ++ u) ≡ t = sym (append_assoc n.piece n.more u) ∙ (ap (λ (l : List ℕ). l ++ u) n.longer ∙ after) in
@@ -57,7 +57,7 @@ meant_unique t f g r u m n before after none other =
 
 pub malformed_unique : MalformedAreUnique
 malformed_unique t e f m n =
-    let same : m.front ≡ n.front = meant_unique t m.front n.front m.rest n.rest m.meant n.meant m.spells n.spells m.refused.none n.refused.none in (
+    let same : m.front ≡ n.front = piece_unique t m.front n.front m.rest n.rest m.is_piece n.is_piece m.spells n.spells m.refused.none n.refused.none in (
       sym m.len ∙ (ap (λ (l : List ℕ). byte_len l) same ∙ n.len),
       n.refused.only (refusal_of e.error) (subst (λ (l : List ℕ). IsRefusal literal_parse l (refusal_of e.error)) same m.refused.table),
     )

@@ -1,5 +1,5 @@
--- The malformed prefix of a text in which a literal begins, but none is valid: a reader continues
--- after it. The Rust Reference does not define it.
+-- The piece at the front of a text in which a literal begins. If none is valid there, the malformed
+-- prefix is a piece, and a reader continues after it. The Rust Reference does not define it.
 use Rattle.std.specs.Prelude.{◌≡◌, ℕ, ◌+◌, Bool, false, not, length, ◌==◌, ◌&&◌, List, [], ◌∷◌, ◌++◌, drop, if◌then◌else◌}
 use Rattle.std.specs.Char.{is_ascii_digit}
 use Rattle.std.specs.List.{after_first, before_first}
@@ -79,8 +79,8 @@ after_prefixed (c ∷ t) =
 abbrev pub after_number : List ℕ → List ℕ
 after_number t = (float_cut t).suffix
 
--- The text after the literal that begins at the front, without its suffix. A bool is left for the
--- name that is the suffix.
+-- The text after the body of the piece at the front, without the name that follows it. A bool is
+-- left for this name.
 abbrev pub after_body : List ℕ → List ℕ
 after_body [] = []
 after_body (c ∷ t) =
@@ -92,14 +92,15 @@ after_body (c ∷ t) =
     else if (c == letter_c) && opens_c_string t then after_prefixed t
     else c ∷ t
 
--- The text after the literal that begins at the front. Its suffix is the whole name after the body.
+-- The text after the piece at the front: after its body, and the whole name that follows. A number is
+-- cut like a float, so a literal may be shorter: `1` of the piece `1.` in `1..2`.
 abbrev pub after_opened : List ℕ → List ℕ
 after_opened t = after_name (after_body t)
 
--- `front` is the malformed prefix of `t`, which has no literal at its front: the literal that
--- begins there, with its suffix. That may itself be a literal, if the text after it may not follow
--- it. Then `front` is the shortest longer prefix of `t` that is not a literal.
-pub record IsMeant (t front : List ℕ) : Type 0 where
+-- `front` is a piece of `t`: the text before `after_opened t`; or a longer text, if that one and all
+-- texts between the two are literals. If no literal is valid at the front of `t`, its malformed
+-- prefix is the prefix of `t` that is a piece but not a literal.
+pub record IsPiece (t front : List ℕ) : Type 0 where
   pub piece : List ℕ
   pub more : List ℕ
   pub opened : piece ++ after_opened t ≡ t

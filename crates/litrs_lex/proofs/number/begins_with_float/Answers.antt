@@ -5,7 +5,7 @@ use Rattle.std.proofs.lemmas.List.{take_rest}
 use Rattle.litrs_base.specs.Text.{first_passes}
 use Rattle.litrs_grammar.specs.LiteralRefusals.{is_float_mark}
 use Rattle.litrs_lex.proofs.NumberBytes.{decimal_float}
-use Rattle.litrs_lex.proofs.number.begins_float.Goals as goal
+use Rattle.litrs_lex.proofs.number.begins_with_float.Goals as goal
 
 first_mark : (bytes : List ℕ) → 1 ≤ length bytes → is_float_mark (get_or bytes 0 0) ≡ true → first_passes is_float_mark bytes ≡ true
 first_mark [] some mark = absurd (omega arith)

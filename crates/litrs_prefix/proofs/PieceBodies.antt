@@ -1,9 +1,9 @@
--- The steps by which what was meant as a literal is passed over.
+-- The steps by which the body of a piece is passed over.
 use Rattle.litrs_prefix.proofs.Words.{◌≡◌, ℕ, zero, suc, ◌+◌, Bool, true, false, not, ◌&&◌, ltb, List, [], ◌∷◌, ◌++◌, drop, length, Option, None, refl, sym, ap, ◌∙◌, inl, inr, arith, ◌==◌, if◌then◌else◌, cases_Bool, nat_tests, drop_at, OnlyAscii, prefix_len_front, take_while-append-rest}
 use Rattle.litrs_prefix.specs.Words.{list_all, prefix_len, begins_with, first_passes, is_decimal_char, is_period, is_e, is_hash, hash_len, after_hashes, hashes, raw_closing, past_quote, past_single_quote, after_digits, after_fraction, after_exponent, after_sign, after_single_quote, after_number, after_closing, after_first, FloatParts, float_text, fraction_text, is_sign, sign_len}
 use Rattle.litrs_grammar.proofs.FloatCuts.{IsCut, cut_of, cut_of_text, after_decimals, letter_period, is_exponent_front, fraction_passes, exponent_stops}
 use Rattle.litrs_prefix.proofs.Runs.{drop_passed}
-use Rattle.litrs_prefix.specs.Meant.{Symbol, lone, escaped, symbols, symbols_text, is_lone, after_quote, first_line}
+use Rattle.litrs_prefix.specs.Piece.{Symbol, lone, escaped, symbols, symbols_text, is_lone, after_quote, first_line}
 
 -- closings
 
