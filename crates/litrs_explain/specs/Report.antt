@@ -9,7 +9,7 @@ use Rattle.litrs_base.specs.declared.err.ParseErrorKind.TheVariants.{InvalidLite
 use Rattle.litrs_diagnostic.specs.Diagnostic.{Message, error_on, diagnostic_text, colored_text}
 use Rattle.litrs_explain.specs.declared.place.Place.{Place}
 use Rattle.litrs_explanation.specs.Explanation.{IsExplanation}
-use Rattle.litrs_grammar.specs.Literal.{Derivation}
+use Rattle.litrs_grammar.specs.Literal.{Derivation, LiteralKind, integer_literal, float_literal, kind_parse, IsLiteralOf}
 
 -- the name of a file, and a line and a column in it
 abbrev pub place_text : (name : List ℕ) → Place → List ℕ
@@ -43,15 +43,29 @@ problem_message name source place marked kind =
     record (error_on name source marked.start marked.end (message_text kind))
     { first_line = narrowed place.line; first_column = narrowed place.column; width = 100 }
 
--- The report is the text of this message, perhaps in color, and the line on more text. A line on a
--- sign may follow if the kind is `InvalidLiteral`.
+-- The text, in bytes, is a minus sign and a literal of the kind.
+abbrev pub IsNegated : LiteralKind → (text : List ℕ) → Type 0
+IsNegated kind text = (number : List ℕ) × (d : Derivation)
+    × (text ≡ codes "-" ++ number) × IsLiteralOf (kind_parse kind) (chars number) d
+
+-- `note` is the line on the sign of `text`, or empty if `text` is not a minus sign and a number.
+pub record IsSignNote (text note : List ℕ) : Type 0 where
+  pub integer : IsNegated integer_literal text →
+      note ≡ codes "  a sign is not part of a literal: without it, this is an integer\n"
+  pub float : IsNegated float_literal text →
+      note ≡ codes "  a sign is not part of a literal: without it, this is a float\n"
+  pub other : ¬ IsNegated integer_literal text → ¬ IsNegated float_literal text → note ≡ []
+
+-- The report is the text of this message, perhaps in color, and the line on more text. If the kind
+-- is `InvalidLiteral`, the line on a sign follows, for the text that is marked.
 pub record IsProblemReport
     (is_colored : Bool) (m : Message) (kind : Option ParseErrorKind) (is_incomplete : Bool)
-    (report : List ℕ) : Type 0 where
+    (marked report : List ℕ) : Type 0 where
   pub message : List ℕ
   pub sign : List ℕ
   pub spells : report ≡ message ++ note_text is_incomplete ++ sign
   pub shows : chars message ≡ (if is_colored then colored_text m else diagnostic_text m)
+  pub is_sign : kind ≡ Some InvalidLiteral → IsSignNote marked sign
   pub no_sign : kind ≢ Some InvalidLiteral → sign ≡ []
 
 -- The status of a run: 2 if an input was not read to its end, else 1 if there was an error, else 0.

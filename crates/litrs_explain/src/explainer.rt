@@ -72,8 +72,8 @@ impl<'a> Explainer<'a> {
     }
 
     /// Starts a file that is called `name`.
-    pub(crate) fn start_file(&mut self, name: &'a str) {
-        self.reports.start_file(name);
+    pub(crate) fn start_file(&mut self, name: &'a str) -> Result<(), AllocError> {
+        self.reports.start_file(name)?;
         self.collector.clear();
         self.open = None;
         self.held.clear();
@@ -81,6 +81,7 @@ impl<'a> Explainer<'a> {
         self.unreadable = 0;
         self.next = Place::START;
         self.next_in_file = 0;
+        Ok(())
     }
 
     /// Explains what ends with this line.

@@ -235,7 +235,7 @@ impl<'a> Run<'a> {
         if !is_utf8(source.argument()) {
             return Err(Error::NotUtf8);
         }
-        self.explainer.start_file(source.name());
+        self.explainer.start_file(source.name())?;
         match source {
             Source::Text(text) => self.explain_lines(text.as_bytes()),
             Source::Stdin => {

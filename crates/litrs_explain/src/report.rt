@@ -1,9 +1,11 @@
 //! Reports on literals and errors, as text or as JSON.
-ghost use Rattle.std.specs.Prelude.{◌≡◌, ◌≤◌, ◌<◌, ◌↔◌, ◌++◌, IfOk, OnOk, IsTrue, string_bytes};
+ghost use Rattle.std.specs.Prelude.{◌≡◌, ◌≢◌, ◌≤◌, ◌<◌, ◌↔◌, [], ◌++◌, slice_range, Some, IfOk, OnOk, IsTrue, string_bytes};
 ghost use Rattle.litrs_base.specs.CharEnd.{IsCutBy};
+ghost use Rattle.litrs_base.specs.declared.err.ParseErrorKind.TheVariants.{InvalidLiteral};
 ghost use Rattle.litrs.specs.LiteralDerivation.{derivation};
-ghost use Rattle.litrs_explain.specs.Report.{place_text, message_text, note_text, narrowed, problem_message, IsLiteralReport, IsProblemReport};
+ghost use Rattle.litrs_explain.specs.Report.{place_text, message_text, note_text, narrowed, problem_message, IsLiteralReport, IsSignNote, IsProblemReport};
 
+use crate::arguments;
 use crate::error::Error;
 use crate::json::{literal_object, problem_object};
 use crate::options::Options;
@@ -52,6 +54,21 @@ impl Problem<'_> {
             None => "byte that is not UTF-8",
         }
     }
+
+    /// Returns the line on the sign of the marked text if the error is `InvalidLiteral`, and an empty
+    /// text otherwise.
+    fn sign_note(&self) -> &'static str
+        ensures is_sign { self.now.kind ≡ Some InvalidLiteral → IsSignNote
+            (slice_range self.now.source.now self.now.marked.start self.now.marked.end)
+            result.now }
+        ensures no_sign { self.now.kind ≢ Some InvalidLiteral → result.now ≡ [] }
+    {
+        if self.kind == Some(ParseErrorKind::InvalidLiteral) {
+            sign_note(&self.source[self.marked.start..self.marked.end])
+        } else {
+            ""
+        }
+    }
 }
 
 /// The reports of a run.
@@ -62,6 +79,8 @@ pub(crate) struct Reports<'a> {
     pub(crate) output: Output,
     /// The name of the file that is read.
     name: &'a str,
+    /// The name with control characters escaped.
+    shown_name: String,
     /// The number of literals in it.
     literals: usize,
     /// The number of errors in it.
@@ -78,6 +97,7 @@ impl<'a> Reports<'a> {
             options,
             output,
             name: "",
+            shown_name: String::new(alloc),
             literals: 0,
             errors: 0,
             has_errors: false,
@@ -85,10 +105,12 @@ impl<'a> Reports<'a> {
     }
 
     /// Starts a file that is called `name`.
-    pub(crate) fn start_file(&mut self, name: &'a str) {
+    pub(crate) fn start_file(&mut self, name: &'a str) -> Result<(), AllocError> {
+        self.shown_name = arguments::shown(self.alloc, name)?;
         self.name = name;
         self.literals = 0;
         self.errors = 0;
+        Ok(())
     }
 
     /// Returns `true` if the file seems to be a text with literals in it, and not a list of
@@ -106,9 +128,9 @@ impl<'a> Reports<'a> {
         self.literals = self.literals.saturating_add(1);
         let out = &mut self.output.unwritten;
         if self.options.color {
-            push_colored_place(self.alloc, out, self.name, place)?;
+            push_colored_place(self.alloc, out, self.shown_name.as_str(), place)?;
         } else {
-            push_place(out, self.name, place)?;
+            push_place(out, self.shown_name.as_str(), place)?;
         }
         push_literal(out, literal)?;
         self.output.end_report()
@@ -144,7 +166,8 @@ impl<'a> Reports<'a> {
         ensures { IfOk result (λ lines. IsProblemReport self.now.options.color
             (problem_message self.now.name.now problem.now.source.now problem.now.place
             problem.now.marked problem.now.kind)
-            problem.now.kind problem.now.is_incomplete (string_bytes lines)) }
+            problem.now.kind problem.now.is_incomplete (slice_range problem.now.source.now
+            problem.now.marked.start problem.now.marked.end) (string_bytes lines)) }
     {
         let marked = problem.marked.start..problem.marked.end;
         let diagnostic = Diagnostic::new(self.name, problem.source, marked, problem.message())
@@ -156,10 +179,7 @@ impl<'a> Reports<'a> {
             shown(self.alloc, &diagnostic)?
         };
         lines.push_str(note(problem.is_incomplete))?;
-        if problem.kind == Some(ParseErrorKind::InvalidLiteral) {
-            let text = &problem.source[problem.marked.start..problem.marked.end];
-            lines.push_str(sign_note(text))?;
-        }
+        lines.push_str(problem.sign_note())?;
         Ok(lines)
     }
 }
@@ -211,8 +231,12 @@ fn note(is_incomplete: bool) -> &'static str
 
 /// Returns the line on the sign of a text that is not a literal, or an empty text if it is not a
 /// minus sign and a number.
-fn sign_note(text: &str) -> &'static str {
-    let number = text.strip_prefix('-').unwrap_or("");
+fn sign_note(text: &str) -> &'static str
+    ensures { IsSignNote text.now result.now }
+{
+    let Some(number) = text.strip_prefix('-') else {
+        return "";
+    };
     if IntegerLit::parse(number).is_ok() {
         "  a sign is not part of a literal: without it, this is an integer\n"
     } else if FloatLit::parse(number).is_ok() {
