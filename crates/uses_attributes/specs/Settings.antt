@@ -146,10 +146,10 @@ pub data IsFaultOf (name : Word) (fault : Fault) : Type 0 where
   of_value : (type : ValueType) → IsNamed name.text.now type →
       IsValueFault type name.rest.now fault → IsFaultOf name fault
 
--- the settings end at this word: at the end of the line, or with a fault
+-- the settings end at this word: at the end of the line, or at a word with a fault
 abbrev pub EndsAt : Option Fault → Word → Type 0
 EndsAt None word = word.text.now ≡ []
-EndsAt (Some fault) word = IsFaultOf word fault
+EndsAt (Some fault) word = (word.text.now ≢ []) × IsFaultOf word fault
 
 -- the line is these settings, and then this fault or nothing
 abbrev pub HasSettings : (line : List ℕ) → List Setting → Option Fault → Type 0

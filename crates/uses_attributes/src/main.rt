@@ -1,15 +1,17 @@
-//! Reads lists of settings, one list a line, as in an attribute of Rust:
+//! Reads lists of settings from the standard input, one list a line, as in an attribute of Rust:
 //! `rename = "x", skip = true, max = 16, offset = -3`. Writes each setting with its value, and the
-//! first fault of a line, marked in the line.
+//! first fault of a line, marked in the line. If the reader of the output has closed it, the program
+//! ends silently.
 #![tactic(auto)]
 
 mod setting;
 mod word;
 
 use setting::{describe, read_settings, show};
-use std::io;
+use std::io::{self, ErrorKind};
 
-fn main(rt: HostRuntime) -> io::Result<()> {
+/// Answers the lines of the standard input.
+fn run(rt: &HostRuntime) -> io::Result<()> {
     let mut number: u32 = 0;
     for line in rt.lines(rt.alloc()) {
         let line = line?;
@@ -23,4 +25,11 @@ fn main(rt: HostRuntime) -> io::Result<()> {
         }
     }
     Ok(())
+}
+
+fn main(rt: HostRuntime) -> io::Result<()> {
+    match run(&rt) {
+        Err(error) if error.kind() != ErrorKind::BrokenPipe => Err(error),
+        _ => Ok(()),
+    }
 }

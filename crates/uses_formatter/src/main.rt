@@ -1,5 +1,7 @@
-//! Writes each line that is a literal in a standard form, with the same kind, value and suffix.
-//! Other lines are unchanged.
+//! Writes each line of the standard input that is a literal in a standard form, with the same kind,
+//! value and suffix. Other lines are unchanged. Each line then ends with LF. A line that is not
+//! UTF-8 ends the program with an error. If the reader of the output has closed it, the program ends
+//! silently.
 //!
 //! Raw strings have the least number of hashes. Other literals are rewritten in one [`Style`]. It
 //! has escapes only for characters that are not shown as they are, and digits and exponents in
@@ -20,11 +22,15 @@ use litrs_build::{
     unescaped,
 };
 use std::alloc::{AllocError, Global};
+use std::io::ErrorKind;
 
 fn main(rt: HostRuntime) -> anyhow::Result<()> {
     for line in rt.lines(rt.alloc()) {
         let line = line?;
-        println!(rt; "{}", formatted(rt.alloc(), line.as_str())?.unwrap_or(line))?;
+        match println!(rt; "{}", formatted(rt.alloc(), line.as_str())?.unwrap_or(line)) {
+            Err(error) if error.kind() == ErrorKind::BrokenPipe => break,
+            printed => printed?,
+        }
     }
     Ok(())
 }

@@ -12,7 +12,7 @@ use Rattle.litrs_lines.specs.Refused.{IsRefused}
 use Rattle.litrs_lines.specs.Steps.{BeginsByLine, IsUnfinished}
 use Rattle.litrs.specs.declared.ParseError.{ParseError}
 
--- The line drops the lines that are held: it is `:cancel`, or empty if no line is held.
+-- The line drops what is held: it is `:cancel` if lines are held, and empty if none is.
 abbrev pub Drops : (held line : List ℕ) → Type 0
 Drops held line =
     ((held ≡ []) × (line ≡ [])) ⊎ ((held ≢ []) × (line ≡ codes ":cancel"))
