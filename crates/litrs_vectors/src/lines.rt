@@ -14,6 +14,9 @@ const MARK: usize = 9973;
 /// The number of bytes that a device takes in a call.
 const PIECE: usize = 4096;
 
+/// The message of a program without memory.
+const NO_MEMORY: &[u8] = b"litrs_lines: out of memory\n";
+
 /// The call that feeds a line.
 const FEED: Call = ("Collector", "feed", "&str");
 
@@ -51,23 +54,28 @@ fn try_reports(alloc: Global, text: &str) -> Outcome {
 fn try_program(alloc: Global, text: &str) -> Outcome {
     let room = room(text);
     let mut input = MemInput::new(text.as_bytes(), PIECE, None);
-    let mut messages: Vec<u8> = Vec::new(alloc);
+    let mut messages = match Vec::from_slice(alloc, NO_MEMORY) {
+        Ok(messages) => messages,
+        Err(error) => return Outcome::Ends(error),
+    };
+    messages.clear();
     // bounded by the length of the text.
     match MemOutput::new(alloc, room, PIECE, None) {
         Ok(mut output) => {
             let status = run_program(alloc, &mut input, &mut output, &mut messages);
-            ended(status)
+            ended(status, &messages)
         }
         Err(_) => Outcome::Refused(("MemOutput", "new", "&str")),
     }
 }
 
-/// Returns the outcome of a run as a program, given its status.
-fn ended(status: ExitCode) -> Outcome {
+/// Returns the outcome of a run as a program, given its status and its messages.
+fn ended(status: ExitCode, messages: &[u8]) -> Outcome {
+    let call = ("litrs_lines", "run_program", "&str");
     if status == ExitCode::SUCCESS {
-        Outcome::Holds
+        agrees(call, messages.is_empty())
     } else {
-        Outcome::Refused(("litrs_lines", "run_program", "&str"))
+        agrees(call, messages == NO_MEMORY).and(Outcome::Refused(call))
     }
 }
 

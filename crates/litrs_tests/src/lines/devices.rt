@@ -142,6 +142,7 @@ fn ends_at_write(alloc: Global, number: u64) -> bool {
         && writer.calls.made == number.saturating_add(1)
         && (writer.flushes == 1) == (writer.calls.made == WRITES)
         && REPORTS.starts_with(&writer.bytes)
+        && (writer.flushes == 0 || writer.bytes.len() == REPORTS.len())
 }
 
 #[test]
