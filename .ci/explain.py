@@ -12,7 +12,7 @@ Runs both builds of crates/litrs_explain, which `rt ci` leaves in its out/, or t
 - files, the standard input and texts, in each order, one of which cannot be read;
 - wrong arguments, and bytes that are not UTF-8, in a line and in an argument;
 - outputs that are closed or full, an input that fails, and a terminal;
-- a long text, of which the program must hold at most its longest literal;
+- a long text in short lines, of which the program must hold less than 1 MB;
 - a long line, whose reports the program must not hold;
 - a long line with many errors. Each is shown at its place, in a time that depends only on the text
   around it.
@@ -28,6 +28,7 @@ import pty
 import re
 import resource
 import select
+import shlex
 import signal
 import subprocess
 import sys
@@ -391,6 +392,14 @@ class Tests:
         out, said, status = self.run("--", "b.txt", "-V", cwd=folder)
         self.hold(out.startswith(b"b.txt:1:1:") and status == 2 and b": -V: " in said, f"{said}")
         self.hold(self.run("b.txt", "--format", "json", cwd=folder)[0][:1] == b"{", "option last")
+        name = "a\x1b[2J\nb"
+        (folder / name).write_bytes(b"1\n0b2\n")
+        out, said, status = self.run(name, cwd=folder)
+        shown = [b"a\\u{1b}[2J\\nb:1:1:", b"a\\u{1b}[2J\\u{a}b:2:3\n"]
+        is_shown = all(it in out for it in shown) and b"\x1b" not in out and b"J\nb" not in out
+        self.hold(is_shown and (said, status) == (b"", 1), f"{name!r}: {out} {said} {status}")
+        names = [it["file"] for it in self.objects(name, given="", status=1, cwd=folder)]
+        self.hold(names == [name] * 2, f"{name!r}: {names}")
 
     def try_hints(self, folder):
         """Tries hints, which name an option, and texts without hints."""
@@ -498,7 +507,8 @@ class Tests:
         ]
         for words, *ends in runs:
             how = {"capture_output": True, "cwd": folder, "timeout": 100, "check": False}
-            ran = subprocess.run(["sh", "-c", f"exec {self.program} {words}"], **how)
+            program = shlex.quote(self.program)
+            ran = subprocess.run(["sh", "-c", f"exec {program} {words}"], **how)
             ended = [ran.returncode, ran.stdout, ran.stderr]
             self.hold(ended == ends, f"{words}: {ended}")
 
@@ -572,27 +582,24 @@ class Tests:
         out, status = self.on_terminal("--color", "never", given=b"1\n23\x04\x04", env={})
         self.hold(b"value 1\r\n" in out and b"value 23\r\n" in out and status == 0, f"{out}")
 
-    def try_long_line(self, folder):
-        """Tests that the reports on the words of a line of 1.6 MB are not held."""
+    def try_memory_held(self, folder):
+        """Tests how many bytes a run holds: less than four times a line of 1.6 MB, so not the
+        reports on its words, and less than 1 MB of a text of 14 MB in short lines."""
         library, peak = folder / "peak.so", folder / "peak"
         words = ["cc", "-O1", "-shared", "-fPIC", "-o", library, TOP / ".ci" / "peak.c"]
         subprocess.run(words, check=True)
         env = {"LD_PRELOAD": str(library), "PEAK": str(peak)}
-        for words in (["--prefix"], ["--prefix", "--format", "json"]):
-            given = b"0b2 " * 400_000
-            how = {"stdout": subprocess.DEVNULL, "env": env, "capture_output": False}
-            self.run(*words, given=given, **how)
-            held = int(peak.read_text())
-            self.hold(held < 4 * len(given), f"{words} hold {held} bytes of {len(given)}")
-
-    def try_long(self, folder):
-        """Tries a text of 16 MB, in room for a quarter of it."""
-        lines = b"let x = 0xFF_u8 + foo(\"a\\n\", 'b'); // 1.5e3\n"
-        (folder / "long").write_bytes(lines * (16_000_000 // len(lines)))
-        words = f"{self.program} --prefix --comments none {folder}/long"
-        words = f"ulimit -v 262144; {words} | tail -c 60"
-        ran = subprocess.run(["sh", "-c", words], capture_output=True, check=False)
-        self.hold(ran.stderr == b"" and b"exponent e3" in ran.stdout, f"a long text: {ran}")
+        lines = b"let x = 0xFF_u8 + foo(\"a\\n\", 'b'); // 1.5e3\n" * 320_000
+        for given, most, status in [(b"0b2 " * 400_000, 6_400_000, 1), (lines, 1_000_000, 0)]:
+            for words in (["--prefix"], ["--prefix", "--format", "json"]):
+                with open(folder / "written", "wb+") as written:
+                    how = {"stdout": written, "env": env, "capture_output": False}
+                    ended = self.run(*words, given=given + b"7_7", **how)[2]
+                    written.seek(-500, os.SEEK_END)
+                    is_read = b"7_7" in written.read()
+                held = int(peak.read_text())
+                what = f"{words} hold {held} bytes of {len(given)}, and end with {ended}, {is_read}"
+                self.hold(1000 < held < most and ended == status and is_read, what)
 
     def seconds(self, *words, given):
         """Returns the processor time of a run that reports an error."""
@@ -635,11 +642,12 @@ class Tests:
             env = {"LD_PRELOAD": library, "REFUSED": records}
             ran = subprocess.run(words, capture_output=True, env=env, timeout=100, check=False)
             self.hold((ran.returncode, ran.stderr) == (1, b""), f"{ran.returncode} {ran.stderr}")
-            again = 0
+            again, tried = 0, set()
             with open(records, "rb") as file:
                 for head in file:
                     how, number, asked, before, status, size = head.split()
                     printed = file.read(int(size) + 1)[:-1]
+                    tried.add(how)
                     stays = (printed, status) == (ran.stdout, b"1")
                     again += stays and int(asked) > int(before)
                     reports, _, message = printed.rpartition(b"litrs_explain: ")
@@ -647,12 +655,13 @@ class Tests:
                     what = f"allocation {number} {how} refused: {printed[-200:]}, {status}"
                     self.hold(stays or stops, what)
             self.hold(again == 0, f"{again} refused allocations change nothing")
+            self.hold(tried == {b"one", b"all"}, f"allocations are refused {tried}")
 
 
 def main():
     faults, number = [], 0
-    for program in sys.argv[1:] or (str(PROGRAM), f"{PROGRAM}.by-rattle"):
-        tests = Tests(program)
+    for program in sys.argv[1:] or (PROGRAM, f"{PROGRAM}.by-rattle"):
+        tests = Tests(os.path.abspath(program))
         with tempfile.TemporaryDirectory(prefix="explain-") as room:
             folder = pathlib.Path(room)
             tests.try_integers()
@@ -676,8 +685,7 @@ def main():
             tests.try_closed()
             tests.try_failing_reads(folder)
             tests.try_terminal()
-            tests.try_long(folder)
-            tests.try_long_line(folder)
+            tests.try_memory_held(folder)
             tests.try_refused()
             tests.try_memory(folder)
         number, faults = number + tests.number, faults + tests.faults

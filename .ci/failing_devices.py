@@ -1,6 +1,6 @@
 #!/usr/bin/env python3
 """Makes each read and each write of litrs_lines_cli fail in turn, and fall short, and each write of
-uses_prompt fail in turn.
+uses_prompt fail in turn. Closes the output of the other programs.
 
     .ci/failing_devices.py
 
@@ -12,6 +12,9 @@ call is a failure.
 
 The program must also write all reports for its file `stdin` and for some groups of lines. It reads
 and writes these in pieces of 1, 3 and 4096 bytes, and reads each input cut into two at each byte.
+
+Runs both builds of uses_attributes, uses_formatter and uses_lexer. If their output is closed, they
+must end silently with status 0.
 
 Runs both builds of crates/uses_prompt too. If its output is closed, it must end silently with
 status 0, and after another failure with a message and status 1. `--help` must not read a line, and
@@ -27,6 +30,7 @@ import tempfile
 TOP = pathlib.Path(__file__).resolve().parent.parent
 PROGRAM = TOP / "crates/litrs_lines_cli/out/litrs_lines_cli"
 PROMPT = TOP / "crates/uses_prompt/out/uses_prompt"
+CLOSED = ["uses_attributes", "uses_formatter", "uses_lexer"]
 LINES = b"0xff80\n'a'\n\n\"a\\tb\"x\n0;\n"
 REPORTS = [
     b"integer base=16 digits=ff80 suffix= value=65408\n",
@@ -111,6 +115,9 @@ class Runs:
         sizes = f"{read_piece} and {write_piece}"
         answer, (reads, writes) = self.run(read_piece, write_piece)
         self.hold(answer == (b"".join(REPORTS), b"", 0), f"{sizes}: {answer}")
+        least = (len(LINES) / read_piece + 1, sum(map(len, REPORTS)) / write_piece)
+        is_counted = reads >= least[0] and writes >= least[1]
+        self.hold(is_counted, f"{sizes}: {reads} reads and {writes} writes")
         for error, at in itertools.product([errno.EIO, errno.EINTR], range(1, reads + 1)):
             answer, counts = self.run(read_piece, write_piece, READ_FAILS=at, IO_ERROR=error)
             ended = LINES[: read_piece * (at - 1)].count(b"\n")
@@ -130,11 +137,28 @@ class Runs:
         answer, (reads, _) = self.run(4096, 4096, words=["--help"])
         is_help = answer[0].startswith(b"Usage: uses_prompt\n") and b":quit" in answer[0]
         self.hold(is_help and answer[1:] == (b"", 0) and reads == 0, f"--help: {answer}")
-        _, (_, writes) = self.run(4096, 4096)
+        _, (reads, writes) = self.run(4096, 4096)
+        self.hold(reads > 1 and writes > 1, f"the prompt: {reads} reads and {writes} writes")
         failures = [(errno.EPIPE, (b"", 0)), (errno.EIO, (IO_MESSAGE, 1))]
         for (error, ending), at in itertools.product(failures, range(1, writes + 1)):
             answer, counts = self.run(4096, 4096, WRITE_FAILS=at, IO_ERROR=error)
             self.hold(answer[1:] == ending and counts[1] == at, f"write {at}, {error}: {answer}")
+
+
+def closed_runs(program, library, folder):
+    """Runs each program of `CLOSED`, in the build that `program` is of, with a closed output."""
+    for name in CLOSED:
+        path = program.replace(PROGRAM.name, name)
+        runs = Runs(path, library, folder)
+        lines = (TOP / "crates" / name / "stdin").read_bytes()
+        _, (_, writes) = runs.run(4096, 4096, lines=lines)
+        runs.hold(writes > 0, f"{path}: {writes} writes")
+        for at in sorted({1, writes}):
+            closed = {"WRITE_FAILS": at, "IO_ERROR": errno.EPIPE}
+            answer, counts = runs.run(4096, 4096, lines=lines, **closed)
+            holds = answer[1:] == (b"", 0) and counts[1] == at
+            runs.hold(holds, f"{path}, write {at}: {answer}, {counts}"[:300])
+        yield runs
 
 
 def main():
@@ -154,8 +178,8 @@ def main():
             runs.try_cuts(stdin.read_bytes(), stdout.read_bytes())
             prompt = Runs(program.replace(str(PROGRAM), str(PROMPT)), library, folder)
             prompt.try_prompt()
-            number += runs.number + prompt.number
-            faults += runs.faults + prompt.faults
+            for tried in (runs, prompt, *closed_runs(program, library, folder)):
+                number, faults = number + tried.number, faults + tried.faults
     print(*faults[:20], sep="\n", end="\n" if faults else "")
     print(f"devices: {number - len(faults)} passed, {len(faults)} failed")
     return 1 if faults else 0

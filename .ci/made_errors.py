@@ -29,10 +29,12 @@ array there.
 Each comment is for the next line only. A comment above a line that does not need it is a fault.
 """
 import collections
+import os
 import pathlib
 import re
 import sys
 
+TOP = pathlib.Path(__file__).resolve().parent.parent
 FAILED, BOUNDED = "// allocation failed: ", "// bounded by "
 
 RESERVES = (
@@ -321,6 +323,7 @@ def main():
     for line, expected in TRIED.items():
         if is_measured(line) != expected:
             sys.exit(f"made_errors.py is wrong about: {line}")
+    os.chdir(TOP)
     texts = sources()
     failures, held = failures_of(texts.values()), held_constants(texts.values())
     faults, marks = [], collections.Counter()

@@ -137,9 +137,9 @@ def cut(program, text):
     return [(kind.decode(), int(start), int(end)) for kind, start, end in lines]
 
 
-def ranges(tokens):
-    """Returns the kinds and ranges of the tokens that are not white space."""
-    at, found = 0, []
+def ranges(tokens, at=0):
+    """Returns the kinds and ranges of the tokens from `at` on that are not white space."""
+    found = []
     for kind, text in tokens:
         if kind != "Whitespace":
             found.append((kind, at, at + len(text)))
@@ -170,17 +170,19 @@ class Tests:
     def try_table(self, program):
         for _, tokens, _ in rows():
             text = b"".join(it for _, it in tokens)
+            wanted = ranges(tokens)
             if text.startswith("\ufeff".encode()):
-                tokens, text = tokens[1:], text
+                wanted = ranges(tokens[1:], len(tokens[0][1]))
             found = cut(program, text)
-            self.hold(found == ranges(tokens), f"{program}: {tokens} is {found}")
+            self.hold(found == wanted, f"{program}: {tokens} is {found}")
 
     def try_files(self, program):
         for text, rest in FILES:
             found = cut(program, text.encode())
             # A byte order mark or a shebang after a space is not skipped.
+            skipped = len(text.encode()) - len(rest.encode())
             wanted = cut(program, b" " + rest.encode())
-            wanted = [(kind, start - 1, end - 1) for kind, start, end in wanted]
+            wanted = [(it, start - 1 + skipped, end - 1 + skipped) for it, start, end in wanted]
             self.hold(found == wanted, f"{program}: {text!r} is {found}, and {rest!r} {wanted}")
 
     def try_edits(self, program):

@@ -207,6 +207,18 @@ def is_absent(folder):
     yield from Room(folder, {}).faults_of_copy(["theirs/new folder"], "", wanted)
 
 
+def is_in_repository(folder):
+    """Yields the faults if a copy has the commit of a repository that contains `ours`."""
+    room = Room(folder, {})
+    git = ["git", "-C", folder, "-c", "user.name=a", "-c", "user.email=a@a"]
+    for words in (["init", "-q"], ["commit", "-q", "--allow-empty", "-m", "a"]):
+        subprocess.run([*git, *words], check=True)
+    ran = room.run("theirs", "litrs_low")
+    version = folder / "theirs/crates/litrs_low/VERSION"
+    if ran.returncode or version.read_text() != COPIED["crates/litrs_low/VERSION"]:
+        yield f"in another repository: {ran.stderr!r}"
+
+
 def stopped_run(room, tool, signal, call):
     """Runs the script, which must fail or be interrupted at this call of a tool."""
     tools, counted = (room.folder.with_name(f"{room.folder.name}-{it}") for it in ("tools", "calls"))
@@ -290,6 +302,7 @@ CASES = [
     has_linked_copy,
     has_linked_lines,
     is_absent,
+    is_in_repository,
     partial(is_stopped, "cp", "KILL", range(1, 7)),
     partial(is_run_again, "cp", range(1, 7)),
     partial(is_run_again, "mv", range(1, 7)),

@@ -633,7 +633,8 @@ def try_all(tried, crates, log):
 
 
 def main(words):
-    log = words.pop(words.index("--follow") + 1) if "--follow" in words else None
+    log = os.path.abspath(words.pop(words.index("--follow") + 1)) if "--follow" in words else None
+    os.chdir(libraries.TOP)
     names = [it for it in words if not it.startswith("--")]
     crates = libraries.crates_of(libraries.TOP)
     if unknown := [it for it in names if it not in crates]:

@@ -9,14 +9,15 @@ The builds are kept in the folder that LITRS_BENCH_WORK names, or in ~/.cache/li
 """
 import os
 import pathlib
+import shutil
 import statistics
 import subprocess
 import sys
 
 from library import KIT, TOP, build, run
 
-CACHE = os.environ.get("XDG_CACHE_HOME", pathlib.Path.home() / ".cache")
-WORK = pathlib.Path(os.environ.get("LITRS_BENCH_WORK", f"{CACHE}/litrs_bench")).resolve()
+CACHE = os.environ.get("XDG_CACHE_HOME") or pathlib.Path.home() / ".cache"
+WORK = pathlib.Path(os.environ.get("LITRS_BENCH_WORK") or f"{CACHE}/litrs_bench").resolve()
 ORDERS = range(1, 7)
 CALLS = ["parse", "parse and value", "parse a String"]
 # The columns in a line of the program: the end of the name, and the start of the figures.
@@ -27,9 +28,12 @@ def tree_of(commit):
     """Returns a folder with the files of the commit."""
     folder = WORK / "trees" / commit
     if not folder.exists():
-        folder.mkdir(parents=True)
         files = subprocess.check_output(["git", "-C", TOP, "archive", commit])
-        subprocess.run(["tar", "x", "-C", folder], input=files, check=True)
+        part = folder.with_name(f"{folder.name}.part")
+        shutil.rmtree(part, ignore_errors=True)
+        part.mkdir(parents=True)
+        subprocess.run(["tar", "x", "-C", part], input=files, check=True)
+        part.rename(folder)
     return folder
 
 

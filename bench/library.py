@@ -8,6 +8,7 @@ the library is compiled without such jumps, by the compiler of the toolchain wit
 import os
 import pathlib
 import re
+import shlex
 import shutil
 import subprocess
 import sys
@@ -37,7 +38,8 @@ def toolchain(folder):
     for tool in (KIT / "toolchain/bin").iterdir():
         if tool.name != "clang":
             (folder / "bin" / tool.name).symlink_to(tool)
-    call = f'exec -a clang {KIT}/toolchain/bin/clang "$@" -mbranches-within-32B-boundaries'
+    clang = shlex.quote(f"{KIT}/toolchain/bin/clang")
+    call = f'exec -a clang {clang} "$@" -mbranches-within-32B-boundaries'
     (folder / "bin/clang").write_text(f"#!/bin/bash\n{call}\n")
     (folder / "bin/clang").chmod(0o755)
     return folder
@@ -85,6 +87,6 @@ def build(tree, out):
 
 
 if __name__ == "__main__":
-    if len(sys.argv) != 2:
+    if len(sys.argv) != 2 or sys.argv[1].startswith("-"):
         sys.exit(__doc__)
     build(TOP, pathlib.Path(sys.argv[1]).resolve())

@@ -173,4 +173,6 @@ def main(is_check):
 
 
 if __name__ == "__main__":
+    if sys.argv[1:] not in ([], ["--check"]):
+        sys.exit(__doc__)
     main(sys.argv[1:] == ["--check"])

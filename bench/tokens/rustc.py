@@ -11,6 +11,7 @@ import os
 import pathlib
 import re
 import subprocess
+import sys
 import tempfile
 
 HERE = pathlib.Path(__file__).resolve().parent
@@ -69,6 +70,11 @@ def field(read):
 
 
 def main():
+    if len(sys.argv) > 1:
+        sys.exit(__doc__)
+    version = subprocess.check_output(["rustc", "--version"], text=True)
+    if not version.startswith("rustc 1.95."):
+        sys.exit(f"the table has the results of rustc 1.95, not of {version}")
     lines = TABLE.read_text().splitlines()
     rows = [it.split("\t") for it in lines if it and not it.startswith("#")]
     pieces = [[it.split(" ", 1)[1] for it in row[1:] if not it.startswith("differs ")] for row in rows]
