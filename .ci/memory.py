@@ -60,7 +60,8 @@ def main():
                     wanted = (lines * (plain + value)).hex().encode() + b"\n"
                     is_measured = len(text) < 2 * peak <= 2 * bound
                     if not is_measured or not printed.endswith(b" value=" + wanted):
-                        print(f"{program.name}: {name}, {lines} lines: {peak} bytes, {len(text) // 2} to {bound} allowed")
+                        allowed = f"{len(text) // 2} to {bound} allowed"
+                        print(f"{program.name}: {name}, {lines} lines: {peak} bytes, {allowed}")
                         failed = True
             number = len(SHAPES) * len(LINES)
             print(f"{program.name}: {number} texts, at most {most:.2f} times one and {ROOM} bytes")

@@ -83,8 +83,8 @@ pub extern "C" fn litrs_write_bytes(
 }
 
 /// Writes the integer with the value `value_low` plus 2^64 times `value_high` in base ten, for
-/// example `255u8`. The status is `REFUSED` if no such integer has the suffix. Otherwise, it is like
-/// [`litrs_write_string`].
+/// example `255u8`. The status is `REFUSED` if no such integer has the suffix. Otherwise, the call
+/// is like [`litrs_write_string`].
 #[unsafe(no_mangle)]
 pub extern "C" fn litrs_write_integer(
     alloc: Global,

@@ -55,8 +55,8 @@ impl Problem<'_> {
         }
     }
 
-    /// Returns the line on the sign of the marked text if the error is `InvalidLiteral`, and an empty
-    /// text otherwise.
+    /// Returns the line on the sign of the marked text if the error is `InvalidLiteral`, and an
+    /// empty text otherwise.
     fn sign_note(&self) -> &'static str
         ensures is_sign { self.now.kind ≡ Some InvalidLiteral → IsSignNote
             (slice_range self.now.source.now self.now.marked.start self.now.marked.end)

@@ -73,7 +73,8 @@ is_float_mark c = (c == period) || is_e c
 
 -- `true` iff such a mark follows the leading run of decimal digits and underscores.
 abbrev pub begins_with_float : List ℕ → Bool
-begins_with_float t = first_passes is_float_mark (drop (prefix_len (is_digit_or_underscore Decimal) t) t)
+begins_with_float t =
+    first_passes is_float_mark (drop (prefix_len (is_digit_or_underscore Decimal) t) t)
 
 -- The start of a text decides as which kind it is parsed, and the table of that kind gives its
 -- refusal. If it starts like no kind, the start alone decides the refusal.

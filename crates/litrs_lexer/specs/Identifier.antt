@@ -34,8 +34,8 @@ IsRawIdentifier t rest =
     × (rest ≡ after_name name)
 
 -- A reserved prefix is at the front of the text, up to the rest. It is the whole name, directly
--- before `"`, `'` or `#`, if the two begin neither a literal other than a bool nor a raw identifier.
--- So `true` before `"` is one.
+-- before `"`, `'` or `#`, if the two begin neither a literal other than a bool nor a raw
+-- identifier. So `true` before `"` is one.
 abbrev pub IsUnknownPrefix : (t rest : List ℕ) → Type 0
 IsUnknownPrefix t rest =
     IsTrue (begins_name t) × (rest ≡ after_name t) × IsTrue (first_passes is_quote_or_hash rest)

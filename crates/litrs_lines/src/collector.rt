@@ -162,7 +162,8 @@ impl Collector {
     /// `b"` joined by LF, and the rest ` + 1`.
     ///
     /// The result is `More` if and only if that of `feed` is. After the other results no line is
-    /// held. If lines are held, all of `line` is copied. The literal is then copied without the rest.
+    /// held. If lines are held, all of `line` is copied. The literal is then copied without the
+    /// rest.
     ///
     /// # Errors
     ///
@@ -307,8 +308,8 @@ impl Collector {
         self.held.is_empty()
     }
 
-    /// Returns the lines that are held, joined by LF, in the order in which they were fed. The text is
-    /// empty only if no line is held.
+    /// Returns the lines that are held, joined by LF, in the order in which they were fed. The text
+    /// is empty only if no line is held.
     pub fn text(&self) -> &str
         ensures none { self.now ≡ [] → result.now ≡ [] }
         ensures lines { self.now ≢ [] → result.now ++ line_feed ∷ [] ≡ self.now }

@@ -78,8 +78,8 @@ pub trait Output {
     ///
     /// # Errors
     ///
-    /// Returns [`Failed`] if the device failed. Then nothing was written, and `failed` returns `true`
-    /// from now on.
+    /// Returns [`Failed`] if the device failed. Then nothing was written, and `failed` returns
+    /// `true` from now on.
     fn write(&mut self, piece: &[u8]) -> Result<usize, Failed>
         ensures bound { IfOk result (λ count. count ≤ length piece.now) }
         ensures some { IfOk result (λ count. count ≡ 0 → piece.now ≡ []) }

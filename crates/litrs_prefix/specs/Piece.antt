@@ -92,13 +92,13 @@ after_body (c ∷ t) =
     else if (c == letter_c) && opens_c_string t then after_prefixed t
     else c ∷ t
 
--- The text after the piece at the front: after its body, and the whole name that follows. A number is
--- cut like a float, so a literal may be shorter: `1` of the piece `1.` in `1..2`.
+-- The text after the piece at the front: after its body, and the whole name that follows. A number
+-- is cut like a float, so a literal may be shorter: `1` of the piece `1.` in `1..2`.
 abbrev pub after_opened : List ℕ → List ℕ
 after_opened t = after_name (after_body t)
 
--- `front` is a piece of `t`: the text before `after_opened t`; or a longer text, if that one and all
--- texts between the two are literals. If no literal is valid at the front of `t`, its malformed
+-- `front` is a piece of `t`: the text before `after_opened t`; or a longer text, if that one and
+-- all texts between the two are literals. If no literal is valid at the front of `t`, its malformed
 -- prefix is the prefix of `t` that is a piece but not a literal.
 pub record IsPiece (t front : List ℕ) : Type 0 where
   pub piece : List ℕ

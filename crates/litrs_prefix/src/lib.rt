@@ -117,10 +117,10 @@ impl Error for MalformedPrefix {}
 ///
 /// The malformed prefix is a piece of the text. The piece of a number, or of a char or string that
 /// is closed, ends after the name that follows: `0b12` in `0b12 + 1`, all of `"\q"b`. A number has
-/// the parts of a float, so of `0x1F` the `0` is the number, and `x1F` the name. The piece of a bool
-/// is its name. An unterminated string extends to the end of the text, an unterminated char or byte
-/// to the end of the line. If the piece is a literal that the rest may not follow, the malformed
-/// prefix is the shortest longer one that is not a literal: `0x1.` in `0x1.5`, `true"` in
+/// the parts of a float, so of `0x1F` the `0` is the number, and `x1F` the name. The piece of a
+/// bool is its name. An unterminated string extends to the end of the text, an unterminated char or
+/// byte to the end of the line. If the piece is a literal that the rest may not follow, the
+/// malformed prefix is the shortest longer one that is not a literal: `0x1.` in `0x1.5`, `true"` in
 /// `true"a"`.
 ///
 /// [ref]: https://doc.rust-lang.org/reference/tokens.html#literals

@@ -11,8 +11,8 @@ use std::error::Error;
 use std::fmt;
 use std::ops::Range;
 
-/// An error: a text has no value of a type, or an allocation failed. Of the variants before `Memory`
-/// it is the first that applies. `Memory` may be returned in place of any but `Malformed`.
+/// An error: a text has no value of a type, or an allocation failed. Of the variants before
+/// `Memory` it is the first that applies. `Memory` may be returned in place of any but `Malformed`.
 #[derive(Debug, Drop)]
 pub enum ValueError {
     /// The text, without its sign, is not a literal. Spans count from the start of the text.

@@ -6,7 +6,7 @@
 //! | [`read`] | a text that is one literal, with a minus sign before a number |
 //! | [`read_prefix`] | the value at the front of a longer text |
 //! | [`FromLiteral::from_literal`] | a literal that is already parsed |
-//! | [`read_str`], [`into_str`] | a string, borrowed from its text unless it is quoted and has a backslash |
+//! | [`read_str`], [`into_str`] | a string, borrowed unless it is quoted and has a backslash |
 //! | [`float`], [`integer_float`] | a float or an integer literal as a float, whatever its suffix |
 //!
 //! | Type | Literals |

@@ -1,5 +1,5 @@
-//! Cuts the Rust source on the standard input into tokens and writes one token a line: its kind, its
-//! place in bytes and its text. For a malformed literal it writes what is wrong with it. If the
+//! Cuts the Rust source on the standard input into tokens and writes one token a line: its kind,
+//! its place in bytes and its text. For a malformed literal it writes what is wrong with it. If the
 //! reader of the output has closed it, the program ends silently.
 #![tactic(auto)]
 
@@ -7,8 +7,8 @@ use litrs_lexer::{TokenKind, strip_shebang, tokenize};
 use std::alloc::{AllocError, Global};
 use std::io::{self, ErrorKind};
 
-/// Returns the lines on the tokens of `source` that are not white space. Their places are those in a
-/// file in which `skipped` bytes precede `source`.
+/// Returns the lines on the tokens of `source` that are not white space. Their places are those in
+/// a file in which `skipped` bytes precede `source`.
 fn report(alloc: Global, source: &str, skipped: usize) -> Result<String, AllocError> {
     let mut out = String::new(alloc);
     for token in tokenize(source) {
