@@ -595,7 +595,7 @@ class Tests:
                 with open(folder / "written", "wb+") as written:
                     how = {"stdout": written, "env": env, "capture_output": False}
                     ended = self.run(*words, given=given + b"7_7", **how)[2]
-                    written.seek(-500, os.SEEK_END)
+                    written.seek(max(written.seek(0, os.SEEK_END) - 500, 0))
                     is_read = b"7_7" in written.read()
                 held = int(peak.read_text())
                 what = f"{words} hold {held} bytes of {len(given)}, and end with {ended}, {is_read}"

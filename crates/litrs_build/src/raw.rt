@@ -232,7 +232,7 @@ fn is_raw_char(c: char, unicode: bool, allow_nul: bool) -> bool
 }
 
 /// Returns the least number of hashes that never follow a quote in the body: one more than the
-/// longest run of hashes after a quote, or 0 if there is no quote.
+/// longest run of hashes after a quote, or 0 if the body does not contain a quote.
 fn hashes_needed(value: &str) -> usize
     ensures { result ≡ hashes_needed (chars value.now) }
 {
