@@ -1,11 +1,13 @@
 -- A text that is cut at both ends of a range.
-use Rattle.std.proofs.Common.{◌≡◌, ◌≤◌, ◌+◌, ◌-◌, ℕ, List, [], ◌++◌, length, take, drop, refl, sym, ap, subst, ◌∙◌, arith, append_assoc, length-append, length-drop, length-take, drop-drop}
+use Rattle.std.proofs.Common.{◌≡◌, ◌≤◌, ◌+◌, ◌-◌, ℕ, Bool, true, false, ◌&&◌, cond, eqb, get_or, inl, inr, true≢false, min, ◌∷◌, List, [], ◌++◌, length, take, drop, refl, sym, ap, subst, ◌∙◌, arith, append_assoc, length-append, length-drop, length-take, drop-drop}
 use Rattle.std.specs.List.{slice_range}
 use Rattle.std.specs.Str.{chars, IsUtf8, IsCharBoundary}
+use Rattle.std.proofs.lemmas.Bool.{cases_lt}
 use Rattle.std.proofs.lemmas.List.{take-append-drop, take_at, drop_at}
 use Rattle.std.proofs.lemmas.Str.{chars-append, IsUtf8-append, IsUtf8-between, IsUtf8-drop, IsCharBoundary-at_seam}
-use Rattle.litrs_diagnostic.specs.Position.{last_line}
-use Rattle.litrs_diagnostic.specs.Line.{Line, first_line, place_on_line, start_line, end_line, start_line_at, end_line_at}
+use Rattle.litrs_base.specs.Text.{first_passes}
+use Rattle.litrs_diagnostic.specs.Position.{is_line_feed, last_line}
+use Rattle.litrs_diagnostic.specs.Line.{Line, first_line, is_carriage_return, is_in_line_end, last_passes, before_line_end, place_on_line, without_line_end, start_line, end_line, start_line_at, end_line_at}
 
 -- the text after the start of the range: the range, and the text after its end
 pub record IsCutAtEnd (bs : List ℕ) (start end : ℕ) : Type 0 where
@@ -146,3 +148,48 @@ pub end_line_at_is : (source : List ℕ) (start end from to : ℕ) (l : Line) �
     l ≡ end_line_at source start end
 unfolding end_line_at
 end_line_at_is source start end from to l is_from is_to is = rw (is_from, is_to) at is
+
+-- ---- places in line ends
+
+pub first_passes-is : (t : List ℕ) → first_passes is_line_feed t ≡ eqb (get_or t 0 0) 10
+first_passes-is [] = refl
+first_passes-is (c ∷ t) = refl
+
+pub before_line_end_is : (bs before after : List ℕ) (place : ℕ) (last first : Bool) →
+    before ≡ take place bs → after ≡ drop place bs →
+    last_passes is_carriage_return before ≡ last → first_passes is_line_feed after ≡ first →
+    before_line_end bs place ≡ cond (last && first) (place - 1) place
+unfolding before_line_end
+before_line_end_is bs before after place last first is_before is_after ends begins =
+    rw (sym is_before, sym is_after, ends, begins) refl
+
+pub not_both : (last : Bool) (place : ℕ) → cond (last && false) (place - 1) place ≡ place
+not_both true place = refl
+not_both false place = refl
+
+-- a text can be cut at the lesser of two places if it can be cut at both
+pub boundary_of_min : (bs : List ℕ) (m n at : ℕ) → at ≡ min m n → IsCharBoundary bs m →
+    IsCharBoundary bs n → IsCharBoundary bs at
+boundary_of_min bs m n at is first second = elim (cases_lt m n) [
+  | inl less ↦ (let same : m ≡ at = omega arith in subst (IsCharBoundary bs) same first)
+  | inr other ↦ (let same : n ≡ at = omega arith in subst (IsCharBoundary bs) same second)
+]
+
+-- the order of two places stays as it is
+in_order_after : (m n : ℕ) (p q : Bool) → m ≤ n → (m ≡ n → p ≡ q) →
+    cond p (m - 1) m ≤ cond q (n - 1) n
+in_order_after m n true true order same = omega arith
+in_order_after m n true false order same = omega arith
+in_order_after m n false false order same = order
+in_order_after m n false true order same = elim (cases_lt m n) [
+  | inl less ↦ omega arith
+  | inr other ↦ absurd (true≢false (sym (same (omega arith))))
+]
+
+pub place_on_line-order : (bs : List ℕ) (start end : ℕ) → start ≤ end →
+    place_on_line bs start ≤ place_on_line bs end
+unfolding before_line_end
+place_on_line-order bs start end order =
+    let last = length (without_line_end bs) in
+    in_order_after (min start last) (min end last) (is_in_line_end bs (min start last))
+    (is_in_line_end bs (min end last)) (omega arith) (ap (is_in_line_end bs))

@@ -6,7 +6,7 @@ use Rattle.std.specs.List.{list_any}
 use Rattle.std.specs.Str.{NonePass}
 use Rattle.litrs_base.proofs.ListTests.{list_any-split}
 use Rattle.litrs_diagnostic.specs.Position.{is_line_feed, last_line, line_number, column_number, column_in}
-use Rattle.litrs_diagnostic.specs.Line.{is_carriage_return, ends_line, first_line, is_line_end, without_line_end}
+use Rattle.litrs_diagnostic.specs.Line.{is_carriage_return, ends_line, first_line, is_line_end, last_passes, without_line_end}
 
 pub or_parts : (a b : Bool) → (a || b) ≡ false → (a ≡ false) × (b ≡ false)
 or_parts true b h = absurd (true≢false h)
@@ -172,3 +172,21 @@ without_line_end-carriage_return (x ∷ []) = refl
 without_line_end-carriage_return (x ∷ d ∷ xs) =
     rw (longer-is_line_end x d 13 xs (10 ∷ [])) (ap (λ (l : List ℕ). x ∷ l)
     (without_line_end-carriage_return (d ∷ xs)))
+
+-- ---- the last character
+
+pub last_passes-end : (test : ℕ → Bool) (xs : List ℕ) (c : ℕ) →
+    last_passes test (xs ++ c ∷ []) ≡ test c
+unfolding last_passes
+last_passes-end test [] c = refl
+last_passes-end test (x ∷ []) c = refl
+last_passes-end test (x ∷ d ∷ xs) c = last_passes-end test (d ∷ xs) c
+
+pub last_passes-none : (t : List ℕ) → ((front : List ℕ) → t ≢ front ++ 13 ∷ []) →
+    last_passes is_carriage_return t ≡ false
+unfolding last_passes
+last_passes-none [] lacks = refl
+last_passes-none (c ∷ []) lacks =
+    ne_eqb c 13 (λ e. lacks [] (ap (λ (x : ℕ). x ∷ []) e))
+last_passes-none (c ∷ d ∷ t) lacks =
+    last_passes-none (d ∷ t) (λ front e. lacks (c ∷ front) (ap (λ (l : List ℕ). c ∷ l) e))

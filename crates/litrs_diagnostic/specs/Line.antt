@@ -1,5 +1,5 @@
 -- The lines of a text that a range marks.
-use Rattle.std.specs.Prelude.{ℕ, ◌==◌, ◌&&◌, ◌||◌, Bool, false, List, [], ◌∷◌, ◌++◌, length, min, take, drop, slice_range, if◌then◌else◌}
+use Rattle.std.specs.Prelude.{ℕ, ◌-◌, ◌==◌, ◌&&◌, ◌||◌, Bool, false, List, [], ◌∷◌, ◌++◌, length, min, take, drop, slice_range, if◌then◌else◌}
 use Rattle.std.specs.Str.{chars}
 use Rattle.litrs_base.specs.Text.{first_passes}
 use Rattle.litrs_diagnostic.specs.Position.{is_line_feed, last_line, line_number, column_in}
@@ -31,9 +31,26 @@ unfoldable pub without_line_end : List ℕ → List ℕ
 without_line_end [] = []
 without_line_end (c ∷ t) = if is_line_end (c ∷ t) then [] else c ∷ without_line_end t
 
--- A place of a text, or the end of its last line if the place is after it.
+-- `true` iff the text is not empty and its last character passes the test.
+unfoldable pub last_passes : (ℕ → Bool) → List ℕ → Bool
+last_passes test [] = false
+last_passes test (c ∷ []) = test c
+last_passes test (c ∷ d ∷ t) = last_passes test (d ∷ t)
+
+-- `true` iff the place is between the CR and the LF at the end of a line.
+abbrev pub is_in_line_end : (source : List ℕ) → (place : ℕ) → Bool
+is_in_line_end source place =
+    last_passes is_carriage_return (take place source)
+    && first_passes is_line_feed (drop place source)
+
+-- The place, or the one before it if the place is between the CR and the LF at the end of a line.
+unfoldable pub before_line_end : (source : List ℕ) → (place : ℕ) → ℕ
+before_line_end source place = if is_in_line_end source place then place - 1 else place
+
+-- A place of a text, or the end of its line if the place is in a line end or after the last line.
 abbrev pub place_on_line : (source : List ℕ) → (place : ℕ) → ℕ
-place_on_line source place = min place (length (without_line_end source))
+place_on_line source place =
+    before_line_end source (min place (length (without_line_end source)))
 
 -- A line that is cut at both ends of the marked part.
 pub record Line : Type 0 where

@@ -1,7 +1,7 @@
 //! The lines that a range marks.
 ghost use Rattle.std.specs.Prelude.{◌≡◌, ◌++◌, ◌≤◌, length, take, drop, slice_range, List, ℕ};
 ghost use Rattle.std.specs.Str.{chars, IsCharBoundary, IsUtf8};
-ghost use Rattle.litrs_diagnostic.specs.Line.{first_line, without_line_end, place_on_line, start_line, end_line, start_line_at, end_line_at, line_at, column_at};
+ghost use Rattle.litrs_diagnostic.specs.Line.{first_line, without_line_end, before_line_end, place_on_line, start_line, end_line, start_line_at, end_line_at, line_at, column_at};
 ghost use Rattle.litrs_diagnostic.specs.Rows.{line_of};
 
 use crate::places::{LineColumn, last_line, place_in};
@@ -111,14 +111,26 @@ fn cut_first_line(text: &str, len: usize) -> (&str, &str)
     }
 }
 
-/// Returns `place`, or the end of the last line of `text` if `place` is after it.
+/// Returns `place`, or the end of its line if `place` is in a line end or after the last line.
 fn place_on_line(text: &str, place: usize) -> usize
     requires { IsCharBoundary text.now place }
     ensures value { result ≡ place_on_line text.now place }
     ensures boundary { IsCharBoundary text.now result }
 {
-    let end = without_line_end(text).len();
-    if place <= end { place } else { end }
+    before_line_end(text, place.min(without_line_end(text).len()))
+}
+
+/// Returns `place`, or the place of the CR before it if `place` is between a CR and an LF.
+fn before_line_end(text: &str, place: usize) -> usize
+    requires { IsCharBoundary text.now place }
+    ensures value { result ≡ before_line_end text.now place }
+    ensures boundary { IsCharBoundary text.now result }
+{
+    let (before, after) = text.split_at(place);
+    match before.strip_suffix('\r') {
+        Some(line) if after.starts_with('\n') => line.len(),
+        _ => place,
+    }
 }
 
 /// Returns `text` without the LF, or CR and LF, at its end.

@@ -15,10 +15,10 @@ use std::ops::Range;
 /// The range is in bytes, and starts and ends on character boundaries of the text. It may be empty,
 /// and at the end of the text. `Display` and [`shown`](crate::shown) write the line on which it
 /// begins. If it ends on a later line, they write that line too. Below the part of the range in
-/// each line there are carets, at least one. A CR before the LF of a line is not shown, unless the
-/// range begins between them and more lines follow. An LF at the end of the text ends its last
-/// line: a range that ends after it is shown as if it ended with that line. If a line has more
-/// columns than `width`, the range comes first, if it fits, and then the text around it.
+/// each line there are carets, at least one. A CR before the LF of a line is not shown: a place
+/// between them is taken as the end of the line. An LF at the end of the text ends its last line: a
+/// range that ends after it is shown as if it ended with that line. If a line has more columns than
+/// `width`, the range comes first, if it fits, and then the text around it.
 ///
 /// [`Diagnostic::new`] makes an error on a whole text, and the methods `with_..` change it. A
 /// [`Label`] marks a further range.
