@@ -1,25 +1,24 @@
-//! Cuts the Rust source on the standard input into tokens and writes one token a line: its kind,
-//! its place in bytes and its text. For a malformed literal it writes what is wrong with it. If the
-//! reader of the output has closed it, the program ends silently.
+//! Cuts the Rust source on the standard input into tokens. Writes a line on each token that is not
+//! white space: its kind, its place in bytes and its text. For a malformed literal it writes what
+//! is wrong with it. A source that is not UTF-8 is an error. Arguments are ignored. If the reader of
+//! the output has closed it, the program ends silently.
 #![tactic(auto)]
 
-use litrs_lexer::{TokenKind, strip_shebang, tokenize};
+use litrs_lexer::{TokenKind, Tokens, strip_shebang};
 use std::alloc::{AllocError, Global};
 use std::io::{self, ErrorKind};
 
-/// Returns the lines on the tokens of `source` that are not white space. Their places are those in
-/// a file in which `skipped` bytes precede `source`.
-fn report(alloc: Global, source: &str, skipped: usize) -> Result<String, AllocError> {
+/// Returns the lines on the tokens of `tokens` that are not white space.
+fn report(alloc: Global, tokens: Tokens<'_>) -> Result<String, AllocError> {
     let mut out = String::new(alloc);
-    for token in tokenize(source) {
+    for token in tokens {
         if token.kind == TokenKind::Whitespace {
             continue;
         }
         let kind = token.kind;
         let text = token.text;
-        let start = token.start.saturating_add(skipped);
-        let end = start.saturating_add(text.len());
-        write!(out, "{kind:?} {start}..{end} {text:?}")?;
+        let range = token.range();
+        write!(out, "{kind:?} {range:?} {text:?}")?;
         if let Some(style) = token.doc_style() {
             write!(out, " documents: {style:?}")?;
         }
@@ -35,8 +34,12 @@ fn report(alloc: Global, source: &str, skipped: usize) -> Result<String, AllocEr
 
 fn main(rt: HostRuntime) -> io::Result<()> {
     let source = io::read_to_string(rt.alloc(), rt.stdin())?;
-    let rest = strip_shebang(source.as_str());
-    let report = report(rt.alloc(), rest, source.len().saturating_sub(rest.len()))?;
+    let source = source.as_str();
+    let tokens = Tokens {
+        source,
+        rest: strip_shebang(source),
+    };
+    let report = report(rt.alloc(), tokens)?;
     match print!(rt; "{report}") {
         Err(error) if error.kind() == ErrorKind::BrokenPipe => Ok(()),
         written => written,
