@@ -19,6 +19,7 @@ use Rattle.litrs_lexer.specs.declared.token.Token.{Token}
 use Rattle.litrs_prefix.specs.Ends.{IsEndOf}
 use Rattle.litrs_prefix.specs.Opens.{opens}
 use Rattle.litrs_prefix.specs.Prefix.{HasPrefix}
+use Rattle.litrs_value.specs.ErrorText.{value_error_text}
 use Rattle.litrs_value.specs.Prefixes.{IsPrefixError}
 use Rattle.litrs_value.specs.Reads.{is_negative, unsigned, marked}
 use Rattle.litrs_value.specs.Refuses.{HasValueOf}
@@ -173,13 +174,20 @@ Describes (Rename text) written = (literal : List ℕ) × (written ≡ codes "re
     × (chars literal ≡ string_text string_kind (written_string (chars (string_bytes text)) []))
 Describes (Skip b) written = written ≡ codes "skip is " ++ bool_text b
 
--- The text is an error with some message on the marked part of the line, which has this number.
+-- the message of a problem
+abbrev pub problem_text : Problem → List ℕ
+problem_text (Expected expected) = codes "expected " ++ expected.now
+problem_text OpenComment = codes "unterminated block comment"
+problem_text (Value error) = value_error_text error
+
+-- The text is an error with the message of the problem on the marked part of the line, which has
+-- this number.
 abbrev pub Shows : (line : List ℕ) (number : ℕ) → Fault → (written : List ℕ) → Type 0
-Shows line number fault written = (message : List ℕ)
-    × (chars written ≡ diagnostic_text (record (error_on (codes "settings") line
+Shows line number fault written = chars written
+    ≡ diagnostic_text (record (error_on (codes "settings") line
     (length line - length fault.at.now + fault.span.start)
-    (length line - length fault.at.now + fault.span.end) message)
-    { first_line = number; first_column = 1; width = 100 }))
+    (length line - length fault.at.now + fault.span.end) (problem_text fault.problem))
+    { first_line = number; first_column = 1; width = 100 })
 
 -- each character is printable or a line feed
 abbrev pub IsPrintable : (written : List ℕ) → Type 0

@@ -1,7 +1,8 @@
 //! Reads lists of settings from the standard input, one list a line, as in an attribute of Rust:
 //! `rename = "x", skip = true, max = 16, offset = -3`. Writes each setting with its value, and the
-//! first fault of a line, marked in the line. If the reader of the output has closed it, the
-//! program ends silently.
+//! first fault of a line, marked in the line. A line that is not UTF-8 ends the program with an
+//! error. Arguments are ignored. If the reader of the output has closed it, the program ends
+//! silently.
 #![tactic(auto)]
 
 mod setting;

@@ -3,18 +3,30 @@ ghost use Rattle.std.specs.Prelude.{◌≡◌, ◌++◌};
 ghost use Rattle.litrs.specs.CharEnd.{IsCutBy};
 
 use litrs_value::ValueError;
+use std::fmt;
 use std::ops::Range;
-use thiserror::Error;
 
 /// The reason for which a line is refused.
-#[derive(Debug, Drop, Error)]
+#[derive(Debug, Drop)]
 pub enum Problem {
-    #[error("expected {0}")]
     Expected(&'static str),
-    #[error("unterminated block comment")]
     OpenComment,
-    #[error("{0}")]
     Value(ValueError),
+}
+
+impl fmt::Display for Problem {
+    ghost use Rattle.std.specs.Prelude.{Some};
+    ghost use Rattle.uses_attributes.specs.Settings.{problem_text};
+
+    ghost output = { λ problem. Some (problem_text problem) };
+
+    fn fmt<W: fmt::Write>(&self, f: &mut fmt::Formatter<W>) -> fmt::Result {
+        match self {
+            Problem::Expected(expected) => write!(f, "expected {expected}"),
+            Problem::OpenComment => f.write_str("unterminated block comment"),
+            Problem::Value(error) => write!(f, "{error}"),
+        }
+    }
 }
 
 /// A fault of a line.

@@ -1,7 +1,7 @@
 //! Writes each line of the standard input that is a literal in a standard form, with the same kind,
 //! value and suffix. Other lines are unchanged. Each line then ends with LF. A line that is not
-//! UTF-8 ends the program with an error. If the reader of the output has closed it, the program
-//! ends silently.
+//! UTF-8 ends the program with an error. Arguments are ignored. If the reader of the output has
+//! closed it, the program ends silently.
 //!
 //! Raw strings have the least number of hashes. Other literals are rewritten in one [`Style`]. It
 //! has escapes only for characters that are not shown as they are, and digits and exponents in
