@@ -1,5 +1,5 @@
 -- The line on the sign before a number.
-use Rattle.std.proofs.Common.{◌≡◌, ℕ, Bool, true, false, List, ◌∷◌, drop, refl, sym, ap, subst, ◌∙◌, codes}
+use Rattle.std.proofs.Common.{◌≡◌, ℕ, true, false, List, ◌∷◌, drop, refl, sym, ap, subst, ◌∙◌, codes}
 use Rattle.std.proofs.lemmas.Bool.{false≢true}
 use Rattle.std.specs.Prelude.{is_ok, IfOk}
 use Rattle.std.specs.Str.{chars}
@@ -9,7 +9,7 @@ use Rattle.litrs_grammar.proofs.Laws.Literal.{literals_are_unique}
 use Rattle.litrs_grammar.specs.Float.{FloatParts, IsFloatOf}
 use Rattle.litrs_grammar.specs.Integer.{IntegerParts, IsIntegerOf}
 use Rattle.litrs_grammar.specs.Literal.{Derivation, an_integer, a_float, IsLiteral, literal_kind, integer_literal, float_literal}
-use Rattle.litrs_explain.specs.Report.{IsNegated, IsSignNote}
+use Rattle.litrs_explain.specs.Report.{IsSignNote}
 
 -- the value of a result that is `Ok`
 pub of_ok : {X E D : Type 0} (r : Result X E) (P : X → Type 0) → is_ok r ≡ true → IfOk r P → ((x : X) → P x → D) → D

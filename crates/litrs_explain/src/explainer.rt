@@ -1,7 +1,9 @@
 //! Explains the literals of a file line by line.
-ghost use Rattle.std.specs.Prelude.{◌≡◌, ◌≤◌, ◌↔◌, IfOk, IsTrue, slice_range, string_bytes};
+ghost use Rattle.std.specs.Prelude.{◌≡◌, ◌≤◌, ◌<◌, ◌+◌, ◌-◌, ◌^◌, ◌↔◌, IfOk, IsTrue, slice_range, string_bytes};
 ghost use Rattle.std.specs.Str.{chars, IsCharBoundary};
 ghost use Rattle.litrs_base.specs.CharEnd.{IsCutBy};
+ghost use Rattle.litrs_base.specs.Refusal.{marked_span};
+ghost use Rattle.litrs_diagnostic.specs.Position.{line_number, column_in};
 ghost use Rattle.litrs_grammar.specs.Literal.{literal_parse, Begins};
 ghost use Rattle.litrs_grammar.specs.Refused.{IsRefusedOrOutOfMemory};
 ghost use Rattle.litrs_explain.specs.Places.{IsTokenOf, IsMark, AreMarks};
@@ -460,8 +462,10 @@ fn marked_part(text: &str, piece: &Range<usize>, error: &ParseError) -> Range<us
     requires piece { IsCutBy text.now piece.now }
     requires refused { IsRefusedOrOutOfMemory literal_parse
         (chars (slice_range text.now piece.now.start piece.now.end)) error.now }
+    ensures span { let span = marked_span
+        (chars (slice_range text.now piece.now.start piece.now.end)) error.now in
+        (result.start ≡ piece.now.start + span.start) × (result.end ≡ piece.now.start + span.end) }
     ensures cuts { IsCutBy text.now result }
-    ensures after { piece.now.start ≤ result.start }
 {
     let marked = error.marked_span(&text[piece.start..piece.end]);
     piece.start + marked.start..piece.start + marked.end
@@ -472,6 +476,7 @@ fn around_end(text: &str, at: usize) -> usize
     requires { IsCharBoundary text.now at }
     ensures boundary { IsCharBoundary text.now result }
     ensures after { at ≤ result }
+    ensures within { result ≤ at + 1024 }
 {
     text.floor_char_boundary(at.saturating_add(AROUND))
 }
@@ -521,7 +526,11 @@ impl Mark {
     fn moved(self, text: &str, at: usize) -> Mark
         requires from { IsMark text.now at self }
         requires to { IsCharBoundary text.now at }
-        ensures { result.at ≡ at }
+        ensures at { result.at ≡ at }
+        ensures line { self.place.line + (at - self.at) < 2 ^ 64 → result.place.line
+            ≡ line_number self.place.line (chars (slice_range text.now self.at at)) }
+        ensures column { self.place.column + (at - self.at) < 2 ^ 64 → result.place.column
+            ≡ column_in self.place.column (chars (slice_range text.now self.at at)) }
     {
         Mark {
             at,

@@ -105,7 +105,10 @@ impl<'a> Reports<'a> {
     }
 
     /// Starts a file that is called `name`.
-    pub(crate) fn start_file(&mut self, name: &'a str) -> Result<(), AllocError> {
+    pub(crate) fn start_file(&mut self, name: &'a str) -> Result<(), AllocError>
+        ensures name { OnOk result (self.new.name.now ≡ name.now) }
+        ensures counts { OnOk result ((self.new.literals ≡ 0) × (self.new.errors ≡ 0)) }
+    {
         self.shown_name = arguments::shown(self.alloc, name)?;
         self.name = name;
         self.literals = 0;

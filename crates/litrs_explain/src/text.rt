@@ -1,6 +1,7 @@
 //! Cuts of texts.
 ghost use Rattle.std.specs.Prelude.{◌≡◌, ◌<◌, ◌-◌, ◌++◌, length, option_map, IfSome};
 ghost use Rattle.memchr.specs.Find.{IsFirstByte, is_byte};
+ghost use Rattle.litrs_diagnostic.specs.Line.{without_line_end};
 
 use memchr::memchr;
 
@@ -16,7 +17,9 @@ pub(crate) fn first_line(bytes: &[u8]) -> Option<(&[u8], &[u8])>
 }
 
 /// Returns the line without the LF, or the CR and LF, at its end.
-pub(crate) fn without_line_end(line: &str) -> &str {
+pub(crate) fn without_line_end(line: &str) -> &str
+    ensures { result.now ≡ without_line_end line.now }
+{
     match line.strip_suffix('\n') {
         Some(line) => line.strip_suffix('\r').unwrap_or(line),
         None => line,
