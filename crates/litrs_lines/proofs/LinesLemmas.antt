@@ -447,6 +447,28 @@ module _ {left_old left contents_old contents : Option (List ℕ)} {line held : 
         appends = Appends-trans contents_old contents contents_new run.so_far out run.writes writes;
       })
 
+-- nothing is taken from an input without bytes
+none_taken : (new : Option (List ℕ)) (bytes : List ℕ) → Consumes (Some []) new bytes → (bytes ≡ []) × (new ≡ Some [])
+none_taken None bytes takes = absurd takes
+none_taken (Some []) [] takes = (refl, refl)
+none_taken (Some (b ∷ bs)) [] takes = cc
+none_taken (Some ys) (b ∷ bytes) takes = cc
+
+-- nor is a line of it begun or held
+pub none_run : {left_old left contents_old contents : Option (List ℕ)} {line held : List ℕ} {reads : ℕ} → RunsOn left_old left contents_old contents line held reads → left_old ≡ Some [] →
+    (line ≡ []) × (held ≡ []) × (left ≡ Some [])
+none_run {left_old} {left} {contents_old} {contents} {line} {held} run none =
+    let all = none_taken left run.taken (subst (λ (o : Option (List ℕ)). Consumes o left run.taken) none run.takes) in
+    let no : ended_lines [] ≡ [] = ended_lines-none [] (All-nil EndsNoLine) in
+    let reports : AreEndedReports [] [] held run.so_far =
+    subst (λ (ls : List (List ℕ)). AreEndedReports [] ls held run.so_far) (ap ended_lines all.0 ∙ no) run.reports in
+    (run.goes_on ∙ (ap open_line all.0 ∙ open_line-none [] (All-nil EndsNoLine)), reports.1.1, all.1)
+
+-- nor does a read of it give bytes
+pub none_read : {left_old left contents_old contents : Option (List ℕ)} {line held : List ℕ} {reads : ℕ} → RunsOn left_old left contents_old contents line held reads → left_old ≡ Some [] →
+    (new : Option (List ℕ)) (piece : List ℕ) → Consumes left new piece → piece ≡ []
+none_read run none new piece takes = (none_taken new piece (subst (λ (o : Option (List ℕ)). Consumes o new piece) (none_run run none).2 takes)).0
+
 -- equal bytes have the same value
 pub same_of : {A B : Type 0} (f : A → B) (a b : A) (v : B) → a ≡ b → f b ≡ v → f a ≡ v
 same_of f a b v same is = ap f same ∙ is

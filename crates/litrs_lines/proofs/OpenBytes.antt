@@ -1,5 +1,5 @@
 -- The string that a text begins, by its bytes: it stays open with more bytes after them, and over a line.
-use Rattle.std.proofs.Common.{◌≡◌, ◌∙◌, inl, inr, ℕ, zero, suc, ◌+◌, ◌≤◌, ◌<◌, Bool, true, false, ltb, List, [], ◌∷◌, ◌++◌, length, take, drop, Option, Some, None, refl, sym, ap, subst, append_assoc, append-nil, arith}
+use Rattle.std.proofs.Common.{◌≡◌, ◌∙◌, inl, inr, ℕ, zero, suc, ◌+◌, ◌≤◌, ◌<◌, Bool, true, false, List, [], ◌∷◌, ◌++◌, length, take, drop, Option, Some, None, refl, sym, ap, subst, append_assoc, append-nil, arith}
 use Rattle.std.specs.Prelude.{◌==◌, if◌then◌else◌}
 use Rattle.std.specs.List.{list_all, prefix_len}
 use Rattle.std.specs.Str.{chars, IsUtf8, IsCharBoundary}
@@ -38,7 +38,7 @@ use Rattle.litrs_lex.proofs.QuotedBytes.{blank_ascii}
 use Rattle.litrs_lex.proofs.RawBytes.{closing_at, refused_body, suffix_refused, body_cut}
 use Rattle.litrs.proofs.Fronts.{front_chars}
 use Rattle.litrs_lex.proofs.QuotedScan.{front_splits, is_item_list-append}
-use Rattle.litrs_lex.proofs.StringFronts.{quoted_boundary, quoted_before}
+use Rattle.litrs_lex.proofs.StringFronts.{quoted_boundary, quoted_before, raw_low}
 use Rattle.litrs_lines.specs.declared.collector.body.Body.{Body}
 use Rattle.litrs_lines.specs.declared.collector.body.Body.TheVariants.{Quoted, Continuation, Raw}
 use Rattle.litrs_lines.specs.declared.collector.body.Open.{Open}
@@ -430,11 +430,6 @@ hashes_split bs n count =
     let same : n ≡ cut.count = count ∙ ap hash_len (sym cut.spells) ∙ hash_len-append cut.count cut.rest cut.stops in
     ap (λ (k : ℕ). hashes k ++ drop k bs) same ∙ ap (λ (l : List ℕ). hashes cut.count ++ drop cut.count l) (sym cut.spells)
     ∙ ap (λ (l : List ℕ). hashes cut.count ++ l) (after_hashes cut.count cut.rest) ∙ cut.spells
-
-raw_low : (kind : StringKind) → list_all (λ c. ltb c 128) (raw_front kind) ≡ true
-raw_low string_kind = refl
-raw_low byte_string_kind = refl
-raw_low c_string_kind = refl
 
 pub raw_opened : (kind : StringKind) (front n place : ℕ) (bytes : List ℕ) → IsUtf8 bytes → begins_with (raw_front kind) bytes ≡ true → front ≡ length (raw_front kind) →
     IsRawOpening front bytes (n, place) → IsRawTo kind n place bytes

@@ -25,8 +25,8 @@ use Rattle.litrs_grammar.specs.Quoted.{Item, plain_item, escape_item, body_text,
 use Rattle.litrs_grammar.specs.GoesOn.Quoted.{IsOpenRest}
 use Rattle.litrs_grammar.specs.Raw.{hashes, occurs, raw_closing, has_unicode, allows_nul, is_raw_char, IsRawBody, RawParts, hash_len, raw_body_refusal, raw_refusal}
 use Rattle.litrs_grammar.specs.Literal.{LiteralKind, bool_literal, integer_literal, float_literal, char_literal, byte_literal, c_string_literal, StringParts, quoted_parts, raw_parts, IsString, a_string, a_byte_string, a_c_string, IsLiteral, literal_parse, Begins, string_literal_of}
-use Rattle.litrs_grammar.specs.LiteralRefusals.{Dispatch, refused_as, StringStart, quoted_start, raw_start, string_start, IsRefusalOfStart, IsStringRefusal, IsKindRefusal, parsed_as, dispatch, IsRefusalOfDispatch, IsRefusal}
-use Rattle.litrs_grammar.proofs.Laws.Literal.{start_quoted, start_raw, literals_are_not_refused, texts_are_decided}
+use Rattle.litrs_grammar.specs.LiteralRefusals.{Dispatch, refused_as, StringStart, quoted_start, raw_start, string_start, IsRefusalOfStart, IsStringRefusal, parsed_as, dispatch, IsRefusalOfDispatch, IsRefusal}
+use Rattle.litrs_grammar.proofs.Laws.Literal.{start_quoted, start_raw, literals_are_not_refused, texts_are_decided, dispatch_quoted, dispatch_raw}
 use Rattle.litrs_grammar.proofs.Laws.Quoted.{body_text-append, quoted_refusals_are_unique, quoted_texts_are_decided}
 use Rattle.litrs_grammar.proofs.LongerTexts.OpenRows.{shut_suffix}
 use Rattle.litrs_grammar.proofs.QuotedItems.{body_stands}
@@ -39,10 +39,12 @@ use Rattle.litrs_lex.specs.BodyStop.{IsShut}
 use Rattle.litrs_grammar.specs.Closing.{opening_text, written_body, closing_of, a_string_of}
 use Rattle.litrs_grammar.proofs.LineFeeds.{is_other}
 use Rattle.litrs_grammar.proofs.RawCuts.{hash_len-append}
-use Rattle.litrs_grammar.proofs.LongerTexts.String.{raw_other}
+use Rattle.litrs_grammar.proofs.LongerTexts.String.{raw_other, quoted_other}
 use Rattle.litrs_grammar.proofs.LongerTexts.Literal.{line_ends_are_decided, open_refusals_close}
 use Rattle.litrs_grammar.proofs.Spans.Literal.{no_literal_ends_with_line_feed}
 use Rattle.litrs_lex.proofs.QuotedScan.{is_item_list-append}
+use Rattle.litrs.proofs.StringRefusals.{in_table}
+use Rattle.litrs_prefix.proofs.PieceLaws.{no_end}
 
 -- no literal, and with LF after it the beginning of one
 abbrev pub IsOpenText : List ℕ → Type 0
@@ -55,34 +57,17 @@ begins_literal string_kind t begins = (begins.0, a_string begins.1, begins.2, be
 begins_literal byte_string_kind t begins = (begins.0, a_byte_string begins.1, begins.2, begins.3)
 begins_literal c_string_kind t begins = (begins.0, a_c_string begins.1, begins.2, begins.3)
 
-refused_kind : (kind : StringKind) (t : List ℕ) (e : Refusal) → IsStringRefusal kind t e → IsKindRefusal (string_literal_of kind) t e
-refused_kind string_kind t e refused = refused
-refused_kind byte_string_kind t e refused = refused
-refused_kind c_string_kind t e refused = refused
-
 -- the refusal of a text that begins as a string of the kind
 string_refusal : (kind : StringKind) (start : StringStart) (t : List ℕ) (e : Refusal) → dispatch t ≡ parsed_as (string_literal_of kind) → string_start kind t ≡ start →
     IsRefusalOfStart kind start t e → IsRefusal literal_parse t e
 string_refusal kind start t e named starts refused =
     let own : IsStringRefusal kind t e = subst (λ s. IsRefusalOfStart kind s t e) (sym starts) refused in
-    subst (λ n. IsRefusalOfDispatch n t e) (sym named) (refused_kind kind t e own)
+    subst (λ n. IsRefusalOfDispatch n t e) (sym named) (in_table kind t e own)
 
 no_literal : (kind : StringKind) (start : StringStart) (t : List ℕ) (e : Refusal) → dispatch t ≡ parsed_as (string_literal_of kind) → string_start kind t ≡ start →
     IsRefusalOfStart kind start t e → HasNoDerivation (IsLiteral t)
 no_literal kind start t e named starts refused d is =
     literals_are_not_refused literal_parse t d e is (string_refusal kind start t e named starts refused)
-
-dispatch_quoted : (kind : StringKind) (x : List ℕ) → dispatch (quoted_front kind ++ x) ≡ parsed_as (string_literal_of kind)
-unfolding dispatch
-dispatch_quoted string_kind x = refl
-dispatch_quoted byte_string_kind x = refl
-dispatch_quoted c_string_kind x = refl
-
-dispatch_raw : (kind : StringKind) (x : List ℕ) → dispatch (raw_front kind ++ x) ≡ parsed_as (string_literal_of kind)
-unfolding dispatch
-dispatch_raw string_kind x = refl
-dispatch_raw byte_string_kind x = refl
-dispatch_raw c_string_kind x = refl
 
 -- Quoted strings
 
@@ -255,11 +240,6 @@ string_of string_kind parts t lit = lit
 string_of byte_string_kind parts t lit = lit
 string_of c_string_kind parts t lit = lit
 
-quoted_other : (kind : StringKind) → list_all is_other (quoted_front kind) ≡ true
-quoted_other string_kind = refl
-quoted_other byte_string_kind = refl
-quoted_other c_string_kind = refl
-
 -- an LF after the text does not belong to a front
 front_before_line : (front x t : List ℕ) → list_all is_other front ≡ true → front ++ x ≡ t ++ 10 ∷ [] → (y : List ℕ) × (front ++ y ≡ t)
 front_before_line [] x t others is = (t, refl)
@@ -270,16 +250,12 @@ front_before_line (c ∷ front) x (d ∷ t) others is =
     let found = front_before_line front x t (and_parts (is_other c) (list_all is_other front) others).1 (ap (drop 1) is) in
     (found.0, ap (λ l. c ∷ l) found.1 ∙ ap (λ n. n ∷ t) same)
 
-pub not_nothing : (a : List ℕ) (c : ℕ) (body : List ℕ) → a ++ c ∷ body ≡ [] → ⊥
-not_nothing [] c body is = cc
-not_nothing (d ∷ a) c body is = cc
-
 -- nor is it the last character before a body
 body_before_line : (a : List ℕ) (c : ℕ) (body x : List ℕ) → (c ≡ 10 → ⊥) → a ++ c ∷ body ≡ x ++ 10 ∷ [] →
     (b : List ℕ) × (body ≡ b ++ 10 ∷ []) × (a ++ c ∷ b ≡ x)
 body_before_line [] c body [] other is = absurd (other (let first : c ≡ 10 = cc in first))
 body_before_line [] c body (d ∷ x) other is = let same : c ≡ d = cc in (x, ap (drop 1) is, ap (λ n. n ∷ x) same)
-body_before_line (h ∷ a) c body [] other is = absurd (not_nothing a c body (ap (drop 1) is))
+body_before_line (h ∷ a) c body [] other is = absurd (no_end a c body (ap (drop 1) is))
 body_before_line (h ∷ a) c body (d ∷ x) other is =
     let same : h ≡ d = cc in
     let found = body_before_line a c body x other (ap (drop 1) is) in
@@ -337,6 +313,22 @@ raw_later kind n a b g =
       unclosed = later_unclosed (raw_closing n) a b g.unclosed;
     }
 
+-- an LF after a raw string without its closing belongs to the body
+raw_front_begins : (kind : StringKind) (d : RawParts) (t front body : List ℕ) → raw_front kind ++ front ≡ t → d.body ≡ body ++ 10 ∷ [] → hashes d.hash_count ++ 34 ∷ body ≡ front →
+    d.hash_count ≤ 255 → IsRawBody (has_unicode kind) (allows_nul kind) d.hash_count d.body → BeginsString kind t
+raw_front_begins kind d t front body opening line spells few is =
+    inr (
+      front,
+      opening,
+      record {
+        hash_count = d.hash_count;
+        body = body;
+        spells = spells;
+        few = few;
+        grammar = raw_before_line kind d.hash_count body (subst (IsRawBody (has_unicode kind) (allows_nul kind) d.hash_count) line is);
+      },
+    )
+
 by_parts : (kind : StringKind) (parts : StringParts) (t closing : List ℕ) → opening_text kind parts ++ written_body parts ≡ t ++ 10 ∷ [] →
     IsString kind ((t ++ 10 ∷ []) ++ closing) parts → BeginsString kind t
 by_parts kind (quoted_parts d) t closing is lit = inl (front_before_line (quoted_front kind) (body_text d.items) t (quoted_other kind) is)
@@ -348,17 +340,7 @@ by_parts kind (raw_parts d) t closing is lit =
     let line : hashes n ++ 34 ∷ d.body ≡ front.0 ++ 10 ∷ [] =
     append_cancel_left (raw_front kind) _ _ (whole ∙ ap (λ l. l ++ 10 ∷ []) (sym front.1) ∙ append_assoc (raw_front kind) front.0 (10 ∷ [])) in
     let cut = body_before_line (hashes n) 34 d.body front.0 (λ e. cc) line in
-    inr (
-      front.0,
-      front.1,
-      record {
-        hash_count = n;
-        body = cut.0;
-        spells = cut.2;
-        few = lit.grammar.hash_count;
-        grammar = raw_before_line kind n cut.0 (subst (IsRawBody (has_unicode kind) (allows_nul kind) n) cut.1 lit.grammar.body);
-      },
-    )
+    raw_front_begins kind d t front.0 cut.0 front.1 cut.1 cut.2 lit.grammar.hash_count lit.grammar.body
 
 -- The closing of a text that ends with LF makes it a string, of which the text has the opening.
 string_begins : (t : List ℕ) → Begins literal_parse (t ++ 10 ∷ []) → (kind : StringKind) × BeginsString kind t

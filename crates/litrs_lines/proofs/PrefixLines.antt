@@ -1,6 +1,5 @@
 -- A literal at the front of lines ends in the last of them.
-use Rattle.std.proofs.Common.{◌≡◌, ◌∙◌, ◌⊎◌, inl, inr, ℕ, List, [], ◌∷◌, ◌++◌, refl, sym, ap, subst, append_assoc, length, drop, ◌-◌, ◌≤◌, Result, Ok, Err, OnOk}
-use Rattle.std.specs.Prelude.{IfOk}
+use Rattle.std.proofs.Common.{◌≡◌, ◌∙◌, ◌⊎◌, inl, inr, ℕ, List, [], ◌∷◌, ◌++◌, refl, sym, ap, subst, append_assoc, length, drop, ◌-◌, ◌≤◌}
 use Rattle.std.specs.Str.{chars, IsUtf8, IsCharBoundary}
 use Rattle.std.proofs.Math.Utf8.{encodes}
 use Rattle.std.proofs.lemmas.List.{append_cancel_right}
@@ -13,11 +12,9 @@ use Rattle.litrs_prefix.proofs.Ends.{end_at, not_longer}
 use Rattle.litrs_prefix.proofs.LongerTexts.{whole}
 use Rattle.litrs_prefix.proofs.Unique.{unique}
 use Rattle.litrs_lines.specs.Held.{IsHeld}
-use Rattle.litrs_lines.specs.declared.collector.PrefixStep.{PrefixStep}
-use Rattle.litrs_lines.specs.declared.collector.PrefixStep.TheVariants.{More, Literal, NoLiteral, Malformed}
-use Rattle.litrs_lines.specs.PrefixSteps.{IsAfterLiteral, IsFront, IsPrefixStep, held_after_prefix}
+use Rattle.litrs_lines.specs.PrefixSteps.{IsAfterLiteral}
 use Rattle.litrs_lines.specs.Steps.{BeginsByLine}
-use Rattle.litrs_lines.proofs.OpenTexts.{not_nothing}
+use Rattle.litrs_prefix.proofs.PieceLaws.{no_end}
 use Rattle.litrs_lines.proofs.StepLemmas.{chars-line_feed, lines_are_utf8}
 
 -- the text after an LF does not decide whether the text before it may follow a literal
@@ -63,7 +60,7 @@ ends_after t s more d begins at =
       literal = at.literal;
       follows = follows_to_line_feed d s begins.0 more ∙ at.follows;
     } in
-    not_nothing s 10 begins.0 (unique longer d begins.1 (s ++ 10 ∷ begins.0) [] part (whole longer begins.1 literal)).1
+    no_end s 10 begins.0 (unique longer d begins.1 (s ++ 10 ∷ begins.0) [] part (whole longer begins.1 literal)).1
 
 -- the end of a text, by its characters
 end_by_chars : (line rest front : List ℕ) → IsUtf8 line → IsUtf8 rest → front ++ chars rest ≡ chars line → IsEndOf line rest
@@ -96,19 +93,3 @@ cut_before_rest line rest after ul ur =
     let end = ends_in_line held.0 line rest after.1 held.1 held.2 ul ur (subst (λ (x : List ℕ). HasPrefix (chars x) after.1 (chars rest)) (sym held.3) after.3) in
     let cut = end_at line end.0 rest ur end.1 in
     (not_longer line rest end, cut.0, cut.1)
-
--- the step for a front
-pub front_step : {E : Type 0} (t : List ℕ) (r : Result PrefixStep E) → IfOk r (IsFront t) → (BeginsByLine t → ⊥) → IfOk r (IsPrefixStep t)
-front_step t (Ok More) is shut = absurd is
-front_step t (Ok (Literal lit rest)) is shut = (is, shut)
-front_step t (Ok NoLiteral) is shut = (is, shut)
-front_step t (Ok (Malformed e)) is shut = (is, shut)
-front_step t (Err e) is shut = tt
-
--- and what is held after it
-pub front_held : {E : Type 0} (t new : List ℕ) (r : Result PrefixStep E) → IfOk r (IsFront t) → OnOk r (new ≡ []) → IfOk r (λ step. new ≡ held_after_prefix t step)
-front_held t new (Ok More) is none = absurd is
-front_held t new (Ok (Literal lit rest)) is none = none
-front_held t new (Ok NoLiteral) is none = none
-front_held t new (Ok (Malformed e)) is none = none
-front_held t new (Err e) is none = tt

@@ -1,5 +1,5 @@
 -- Texts that end with LF, the steps of texts, and texts that are held.
-use Rattle.std.proofs.Common.{◌≡◌, ◌∙◌, ◌⊎◌, inl, inr, ℕ, Bool, true, false, List, [], ◌∷◌, ◌++◌, refl, sym, ap, subst, append-nil, append_assoc, arith, length, take, ◌-◌, ◌+◌, ◌<◌, length-append, slice_index, Result, Ok, Err, OnOk, OnErr}
+use Rattle.std.proofs.Common.{◌≡◌, ◌∙◌, ◌⊎◌, inl, inr, ℕ, Bool, true, false, List, [], ◌∷◌, ◌++◌, refl, sym, ap, subst, append-nil, arith, length, take, ◌-◌, ◌+◌, ◌<◌, length-append, slice_index, Result, Ok, Err, OnOk, OnErr}
 use Rattle.std.specs.Prelude.{IfOk, ◌==◌}
 use Rattle.std.specs.Str.{chars, IsUtf8, IsCharBoundary}
 use Rattle.std.specs.String.Boundary.{IsSplitPoint}
@@ -11,16 +11,16 @@ use Rattle.litrs_base.specs.Text.{IsText}
 use Rattle.litrs_base.specs.declared.err.ParseErrorKind.{ParseErrorKind}
 use Rattle.litrs_base.specs.declared.err.ParseErrorKind.TheVariants.{UnterminatedRawString}
 use Rattle.litrs_base.proofs.Chars.{ascii_by_test}
-use Rattle.litrs_base.specs.Finality.{is_open, is_final}
+use Rattle.litrs_base.specs.Finality.{is_open}
 use Rattle.litrs_base.specs.Refusal.{Refusal, refusal_of, kind_of}
-use Rattle.litrs_grammar.specs.Literal.{IsLiteral, IsLiteralOf, literal_parse, Begins}
+use Rattle.litrs_grammar.specs.Literal.{IsLiteral, literal_parse, Begins}
 use Rattle.litrs_grammar.specs.LiteralRefusals.{IsRefusal}
 use Rattle.litrs_grammar.proofs.Laws.Literal.{literals_are_not_refused, texts_are_decided}
 use Rattle.litrs_grammar.proofs.Spans.Literal.{no_literal_ends_with_line_feed}
 use Rattle.litrs_base.specs.declared.err.ParseError.{ParseError}
 use Rattle.litrs_grammar.specs.Closing.{after_raw_front, closing_text, closing_of, a_string_of}
 use Rattle.litrs_grammar.specs.Raw.{hash_len}
-use Rattle.litrs_grammar.specs.Refused.{IsRefused, IsRefusedOrOutOfMemory}
+use Rattle.litrs_grammar.specs.Refused.{IsRefusedOrOutOfMemory}
 use Rattle.litrs_grammar.proofs.LongerTexts.Raw.{closing_is_text}
 use Rattle.litrs_grammar.specs.Quoted.{without_last}
 use Rattle.litrs_grammar.proofs.QuotedItems.{without_last-append}
@@ -29,14 +29,9 @@ use Rattle.litrs.specs.declared.Literal.{Literal as AnyLiteral}
 use Rattle.litrs.specs.LiteralDerivation.{literal_raw, derivation}
 use Rattle.litrs_lines.specs.declared.collector.Step.{Step}
 use Rattle.litrs_lines.specs.declared.collector.Step.TheVariants.{More, Literal, Refused}
-use Rattle.litrs_lines.specs.Held.{Extends, IsHeld}
+use Rattle.litrs_lines.specs.Held.{IsHeld}
 use Rattle.litrs_lines.specs.Steps.{BeginsByLine, IsUnfinished, IsReadAs, IsLiteralStep, IsStep, held_after, Feeds, Pushes}
 use Rattle.litrs_lines.specs.StepLaws.{StepsAreDecided, StepsAreUnique}
-
--- a fact that always holds also holds on an error
-pub OnErr-holds : {T E : Type 0} {P : Type 0} (r : Result T E) → P → OnErr r P
-OnErr-holds (Ok _) p = tt
-OnErr-holds (Err _) p = p
 
 line_feed_char : chars (10 ∷ []) ≡ 10 ∷ []
 unfolding chars
@@ -122,32 +117,8 @@ pushed_is_held old line new (Ok true) held pushed err = line_is_held (old ++ lin
 pushed_is_held old line new (Ok false) held pushed err = subst IsHeld (sym (pushed.other refl).1) held
 pushed_is_held old line new (Err e) held pushed err = subst IsHeld (sym err) held
 
--- and after what is held is taken
-pub taken_is_held : {T E : Type 0} (old new : List ℕ) (r : Result T E) → IsHeld old → OnOk r (new ≡ []) → OnErr r (new ≡ old) → IsHeld new
-taken_is_held old new (Ok t) held none same = nothing_is_held new none
-taken_is_held old new (Err e) held none same = subst IsHeld (sym same) held
-
--- a final refusal shuts a text
-pub final_shuts : (t : List ℕ) (e : ParseError) → IsRefused literal_parse (chars t) e → is_final (kind_of e) ≡ true → BeginsByLine t → ⊥
-final_shuts t e refused final line =
-    refused.final final (10 ∷ line.0) line.1 (subst (λ (u : List ℕ). IsLiteralOf literal_parse u line.1) (append_assoc (chars t) (10 ∷ []) line.0) line.3)
-
--- a line that is pushed leaves the same text as one that is fed
-pub feeds_more : (old line new : List ℕ) (goes_on : Bool) → IsUtf8 (old ++ line) → Pushes old line new goes_on → goes_on ≡ true → Feeds (old ++ line) new More
-feeds_more old line new goes_on u pushed is = let p = pushed.more is in record { utf8 = u; is = p.0; after = p.1 }
-
 pub first_is : (old line : List ℕ) → old ≡ [] → old ++ line ≡ line
 first_is old line none = ap (λ (l : List ℕ). l ++ line) none
-
-pub feeds_refused : (old line new : List ℕ) (goes_on : Bool) (e : ParseError) → old ≡ [] → IsUtf8 line → IsRefused literal_parse (chars line) e → Pushes old line new goes_on → goes_on ≡ false →
-    Feeds (old ++ line) new (Refused e)
-feeds_refused old line new goes_on e none u refused pushed is =
-    let p = pushed.other is in
-    let text = first_is old line none in record {
-      utf8 = subst IsUtf8 (sym text) u;
-      is = (subst (λ (t : List ℕ). IsRefused literal_parse (chars t) e) (sym text) refused, p.0);
-      after = p.1 ∙ none;
-    }
 
 -- a literal that is read is the step of its text
 pub feeds_literal : {B : Type 0} (old line : List ℕ) (lit : AnyLiteral B) (step : Step) → old ≡ [] → IsUtf8 line → literal_raw lit ≡ line → IsOnlyDerivation (IsLiteral (chars line)) (derivation lit) →
@@ -191,6 +162,10 @@ lines_of_held held left n m is len some pops =
     let lines = is (λ none. let zero : length held ≡ 0 = ap length none in absurd (omega arith)) in
     let same : left ≡ without_last held = popped held (without_last held) left n len lines.0 pops in
     (ap (λ (x : List ℕ). x ++ 10 ∷ []) same ∙ lines.0, subst (λ (x : List ℕ). HasNoDerivation (IsLiteral (chars x))) (sym same) lines.1.0)
+
+-- the new text is the old one with some text after it
+abbrev Extends : List ℕ → List ℕ → Type 0
+Extends old new = (more : List ℕ) × IsUtf8 more × (new ≡ old ++ more)
 
 -- the place where a longer text was one may be cut
 pub may_be_cut : (old new : List ℕ) (len : ℕ) → Extends old new → len ≡ length old → IsSplitPoint new len

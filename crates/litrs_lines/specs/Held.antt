@@ -8,10 +8,6 @@ use Rattle.litrs_grammar.specs.Quoted.{without_last}
 use Rattle.litrs_grammar.specs.Refused.{IsRefused}
 use Rattle.litrs_lines.specs.Steps.{IsUnfinished}
 
--- The new text is the old one with some text after it.
-abbrev pub Extends : List ℕ → List ℕ → Type 0
-Extends old new = (more : List ℕ) × IsUtf8 more × (new ≡ old ++ more)
-
 -- Nothing is held, or lines that are unfinished, with an LF after each. `without_last` removes the
 -- LF after the last line.
 abbrev pub IsHeld : List ℕ → Type 0

@@ -16,7 +16,7 @@ pub(crate) struct Reporter<'a, O> {
 }
 
 impl<O: Output> Reporter<'_, O> {
-    ghost use Rattle.std.specs.Prelude.{◌≡◌, ◌∷◌, [], OnOk, string_bytes};
+    ghost use Rattle.std.specs.Prelude.{◌≡◌, ◌≢◌, ◌∷◌, [], IsErrOf, OnOk, string_bytes};
     ghost use Rattle.std.specs.Str.{chars};
     ghost use Rattle.litrs_grammar.specs.Literal.{literal_parse};
     ghost use Rattle.litrs_grammar.specs.Refused.{IsRefused};
@@ -92,8 +92,9 @@ impl<O: Output> Reporter<'_, O> {
 
     /// Adds the report on the lines that are held, if there are any. Then none is held.
     pub(crate) fn report_held(&mut self) -> Result<(), RunError>
-        ensures { Leaves O.contents O.has_failed O.write_failed result self.old self.new
+        ensures adds { Leaves O.contents O.has_failed O.write_failed result self.old self.new
             (IsHeldReport self.old.collector.now) }
+        ensures memory { IsErrOf result RunError.Memory → self.old.collector.now ≢ [] }
     {
         let alloc = *self.unwritten.allocator();
         match mem::replace(self.collector, Collector::new(alloc)).finish() {
@@ -107,6 +108,7 @@ impl<O: Output> Reporter<'_, O> {
         ensures adds { Leaves O.contents O.has_failed O.write_failed result self.old self.new
             (AreBytes self.old.collector.now []) }
         ensures written { OnOk result (string_bytes self.new.unwritten.now ≡ []) }
+        ensures memory { IsErrOf result RunError.Memory → ⊥ }
     {
         write_all(self.writer, self.unwritten.as_bytes())?;
         self.unwritten.clear();

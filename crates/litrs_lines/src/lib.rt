@@ -1,7 +1,7 @@
 //! Reads lines and writes a report on each literal in them, and on each text that is not one.
 #![tactic(auto)]
 
-ghost use Rattle.std.specs.Prelude.{◌≡◌, ◌↔◌, ◌⊎◌, ◌∷◌, [], ◌++◌, ◌-◌, ◌^◌, true, false, Some, IsSome, IfSome, IsErrOf, OnOk, OnErr, position, string_bytes};
+ghost use Rattle.std.specs.Prelude.{◌≡◌, ◌≢◌, ◌↔◌, ◌⊎◌, ◌∷◌, [], ◌++◌, ◌-◌, ◌^◌, true, false, Some, IsSome, IfSome, IsErrOf, OnOk, OnErr, position, string_bytes};
 ghost use Rattle.std.specs.Io.KnownBytes.{IsAtEnd};
 ghost use Rattle.litrs_lines.specs.Stopped.{StopsWithin};
 ghost use Rattle.litrs_lines.specs.Lines.{is_line_feed, HasNoLineFeed, strip_cr, ended_lines, open_line, unless_empty, lines_of};
@@ -137,6 +137,7 @@ fn write_all<O: Output>(writer: &mut O, bytes: &[u8]) -> Result<(), RunError>
     ensures bytes { WritesBytes result bytes.now (O.contents writer.old) (O.contents writer.new) }
     ensures failure { NamesFailure result (O.has_failed writer.old) (O.has_failed writer.new)
         (O.write_failed writer.new) }
+    ensures memory { IsErrOf result RunError.Memory → ⊥ }
 {
     let mut rest = bytes;
     while !rest.is_empty() {
@@ -166,8 +167,9 @@ fn process_piece<O: Output>(
 
 /// Processes the last line if it has no LF and is not empty.
 fn process_open_line<O: Output>(line: &[u8], reporter: &mut Reporter<O>) -> Result<(), RunError>
-    ensures { Leaves O.contents O.has_failed O.write_failed result reporter.old reporter.new
+    ensures adds { Leaves O.contents O.has_failed O.write_failed result reporter.old reporter.new
         (AreEndedReports reporter.old.collector.now (unless_empty line.now)) }
+    ensures memory { IsErrOf result RunError.Memory → line.now ≢ [] }
 {
     if line.is_empty() {
         return Ok(());
@@ -177,8 +179,10 @@ fn process_open_line<O: Output>(line: &[u8], reporter: &mut Reporter<O>) -> Resu
 
 /// Reports on the last line if it has no LF and is not empty, and on the lines that are then held.
 fn report_last<O: Output>(line: &[u8], reporter: &mut Reporter<O>) -> Result<(), RunError>
-    ensures { Leaves O.contents O.has_failed O.write_failed result reporter.old reporter.new
+    ensures adds { Leaves O.contents O.has_failed O.write_failed result reporter.old reporter.new
         (λ _. AreLastReports reporter.old.collector.now (unless_empty line.now)) }
+    ensures memory { line.now ≡ [] → reporter.old.collector.now ≡ []
+        → IsErrOf result RunError.Memory → ⊥ }
 {
     process_open_line(line, reporter)?;
     reporter.report_held()
@@ -190,6 +194,8 @@ fn finish<O: Output>(line: &[u8], reporter: &mut Reporter<O>) -> Result<(), RunE
     ensures adds { Leaves O.contents O.has_failed O.write_failed result reporter.old reporter.new
         (λ _. AreLastReports reporter.old.collector.now (unless_empty line.now)) }
     ensures written { OnOk result (string_bytes reporter.new.unwritten.now ≡ []) }
+    ensures memory { line.now ≡ [] → reporter.old.collector.now ≡ []
+        → IsErrOf result RunError.Memory → ⊥ }
 {
     report_last(line, reporter)?;
     reporter.write_unwritten()
@@ -240,6 +246,9 @@ pub fn run<I: Input, O: Output>(
         → I.has_failed reader.new ≡ true }
     ensures read_failed { I.has_failed reader.new ≡ true → IsErrOf result RunError.Read }
     ensures write { IsErrOf result RunError.Write ↔ (O.has_failed writer.new ≡ true) }
+
+    // Over an input that is known to be empty there is no memory error.
+    ensures memory { I.remaining reader.old ≡ Some [] → IsErrOf result RunError.Memory → ⊥ }
 
     // If no write has failed, the flush has, after all reports.
     ensures flush { IsErrOf result RunError.Write → O.write_failed writer.new ≡ false →

@@ -1,5 +1,5 @@
 //! A run with an exit status and a message, for a program.
-ghost use Rattle.std.specs.Prelude.{◌≡◌, ◌⊎◌, true, false, IfSome};
+ghost use Rattle.std.specs.Prelude.{◌≡◌, ◌⊎◌, [], true, false, Some, IfSome};
 ghost use Rattle.std.specs.Io.KnownBytes.{IsAtEnd, Keeps};
 ghost use Rattle.std.specs.Process.{exit_status};
 ghost use Rattle.litrs_lines.specs.Lines.{lines_of};
@@ -37,6 +37,10 @@ pub fn run_program<I: Input, O: Output, M: Write>(
     // Otherwise the bytes written are a prefix of the reports on the whole lines that were read.
     ensures err { exit_status result ≡ 1 → StopsWithin (I.remaining reader.old)
         (I.remaining reader.new) (O.contents writer.old) (O.contents writer.new) }
+
+    // The status is 0 over an input that is known to be empty, if no device fails.
+    ensures succeeds { I.remaining reader.old ≡ Some [] → I.has_failed reader.new ≡ false
+        → O.has_failed writer.new ≡ false → exit_status result ≡ 0 }
 
     // A device that failed is seen in the status.
     ensures read_failed { I.has_failed reader.new ≡ true → exit_status result ≡ 1 }

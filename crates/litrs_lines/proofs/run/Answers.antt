@@ -1,6 +1,7 @@
-use Rattle.std.proofs.Common.{false, inl, refl, arith, ap, ◌∙◌, length-take, rules}
+use Rattle.std.proofs.Common.{false, inl, refl, arith, ap, ◌∙◌, length, length-take, rules}
 use Rattle.std.proofs.KnownBytes.{Appends-kept, Keeps-refl}
-use Rattle.litrs_lines.proofs.LinesLemmas.{runs_none, line_unended, runs_more, runs_same, same_of, stops_at_read, stops_in_piece, stops_at_end, ends_run, one_more_read, known_reads, OnOk-holds, OnErr-holds, take_none}
+use Rattle.std.proofs.lemmas.Result.{err_from_is_err_and}
+use Rattle.litrs_lines.proofs.LinesLemmas.{runs_none, none_read, none_run, line_unended, runs_more, runs_same, same_of, stops_at_read, stops_in_piece, stops_at_end, ends_run, one_more_read, known_reads, OnOk-holds, OnErr-holds, take_none}
 use Rattle.litrs_lines.proofs.Sending.{writes_these, writes_whole, appends_same, begins_same, begins_rest}
 use Rattle.litrs_lines.proofs.run.Goals as goal
 
@@ -75,3 +76,15 @@ pub returns-clause-read_known : goal.returns-clause-read_known
 returns-clause-read_known g c = λ _ known.
     let few = known_reads _ _ _ _ _ _ _ c.loop-turn.invariant.runs known (g.met.I.Input.few c.args.reader.now) in
     absurd (omega (arith, c.loop-turn-test.false))
+
+pub returns-in_err-finish-clause-memory : goal.returns-in_err-finish-clause-memory
+returns-in_err-finish-clause-memory g c = λ none is.
+    let p = err_from_is_err_and c.from_residual.result c.from_residual.ensures.1 in
+    let nothing = none_run c.loop-turn.invariant.runs none in
+    c.in_err-finish.ensures.memory (c.as_slice.ensures.value ∙ nothing.0) nothing.1 cc
+
+pub returns-in_err-process_piece-clause-memory : goal.returns-in_err-process_piece-clause-memory
+returns-in_err-process_piece-clause-memory g c = λ none _.
+    let nothing = none_read c.loop-turn.invariant.runs none _ _ c.in-Ok.ensures.bytes.0 in
+    let size = ap length nothing in
+    omega (arith, size, length-take c.in-Ok.count c.read.new.buffer, c.in-Ok.ensures.bound)
