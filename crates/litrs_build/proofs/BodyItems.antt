@@ -1,12 +1,9 @@
 -- The item at the front of a text, by its first bytes.
 use Rattle.std.proofs.Common.{◌≡◌, ℕ, ◌+◌, ◌<◌, Bool, true, false, not, ◌||◌, List, [], ◌∷◌, ◌++◌, length, drop, get_or, cond, refl, sym, ap, ◌∙◌, subst, arith}
 use Rattle.std.specs.Prelude.{◌==◌}
-use Rattle.std.specs.Char.{encode_utf8, len_utf8}
 use Rattle.std.specs.List.{list_all, prefix_len}
 use Rattle.std.specs.Str.{chars, IsUtf8}
 use Rattle.std.proofs.lemmas.Bool.{eqb-true, eq-eqb, true≢false, not-true, and_parts}
-use Rattle.std.proofs.lemmas.List.{append-nil}
-use Rattle.std.proofs.lemmas.Str.{chars-nil, chars_past_char, length-encode}
 use Rattle.litrs_base.specs.Characters.{is_blank}
 use Rattle.litrs_base.specs.Text.{byte_len, first_passes, is_empty}
 use Rattle.litrs_base.specs.declared.escape.Unescape.{Unescape}
@@ -23,59 +20,11 @@ use Rattle.litrs_lex.proofs.EscapeEnds.{slash_byte, slash_chars, starts_escape}
 use Rattle.litrs_lex.proofs.QuotedBytes.{blank_ascii}
 use Rattle.litrs_build.specs.BodyItem.{BeginsWithItem, IsItemRead, IsLetterOf, is_any_item}
 use Rattle.litrs_build.specs.Rewriting.{own_spelling}
-use Rattle.litrs_build.specs.declared.body_item.BodyItem.TheVariants.{Plain, Escape as an_escape, Continuation}
+use Rattle.litrs_build.specs.declared.body_item.BodyItem.TheVariants.{Escape as an_escape, Continuation}
 use Rattle.litrs_build.specs.declared.spelling.Spelling.{Spelling}
 
 abbrev pub is_slash : ℕ → Bool
 is_slash c = c == 92
-
--- every item but a character starts with a backslash
-slash_item : (item : Item) (after : List ℕ) → ((c : ℕ) → item ≡ plain_item c → ⊥) →
-    first_passes is_slash (item_text item ++ after) ≡ true
-slash_item (plain_item c) after none = absurd (none c refl)
-slash_item (escape_item (simple_escape c)) after none = refl
-slash_item (escape_item (hex_escape high low)) after none = refl
-slash_item (escape_item (unicode_escape inner)) after none = refl
-slash_item (continuation blanks) after none = refl
-
--- A character
-
-plain_len : (c : ℕ) → byte_len (c ∷ []) ≡ len_utf8 c
-plain_len c = ap length (append-nil (encode_utf8 c)) ∙ length-encode c
-
-plain_by : (w : Switches) (c : ℕ) (t : List ℕ) (item : Item) (after : List ℕ) →
-    (c == 92) ≡ false → c ∷ t ≡ item_text item ++ after → IsItemRead (Plain c) (len_utf8 c) item
-plain_by w c t (plain_item d) after other spells =
-    let same : c ≡ d = cc in (same, ap (λ (n : ℕ). byte_len (n ∷ [])) (sym same) ∙ plain_len c)
-plain_by w c t (escape_item e) after other spells =
-    absurd (true≢false (sym (slash_item (escape_item e) after (λ n is. cc))
-    ∙ (ap (first_passes is_slash) (sym spells) ∙ other)))
-plain_by w c t (continuation blanks) after other spells =
-    absurd (true≢false (sym (slash_item (continuation blanks) after (λ n is. cc))
-    ∙ (ap (first_passes is_slash) (sym spells) ∙ other)))
-
-pub plain_read : (w : Switches) (bytes later : List ℕ) (c : ℕ) (item : Item) (after : List ℕ) →
-    IsUtf8 bytes → first_passes is_slash bytes ≡ false → bytes ≡ encode_utf8 c ++ later →
-    BeginsWithItem w bytes item after → IsItemRead (Plain c) (len_utf8 c) item
-plain_read w bytes later c item after u other step begins =
-    let split : chars bytes ≡ c ∷ chars later = chars_past_char bytes later c u step in
-    plain_by w c (chars later) item after
-    (sym (ap (first_passes is_slash) split)
-    ∙ (first_passes-chars is_slash bytes (only_char 92 (omega arith)) u ∙ other))
-    (sym split ∙ begins.spells)
-
--- a text that starts with an item has a first byte
-some_text : (item : Item) (after : List ℕ) → [] ≡ item_text item ++ after → ⊥
-some_text (plain_item c) after is = cc
-some_text (escape_item (simple_escape c)) after is = cc
-some_text (escape_item (hex_escape high low)) after is = cc
-some_text (escape_item (unicode_escape inner)) after is = cc
-some_text (continuation blanks) after is = cc
-
-pub some_byte : (w : Switches) (bytes : List ℕ) (item : Item) (after : List ℕ) →
-    BeginsWithItem w bytes item after → length bytes ≡ 0 → ⊥
-some_byte w [] item after begins none = some_text item after (sym chars-nil ∙ begins.spells)
-some_byte w (b ∷ bytes) item after begins none = absurd (omega arith)
 
 -- A continuation
 
@@ -129,13 +78,6 @@ continuation_read w bytes t len item after u is size begins =
     continuation_by w (chars t) len item after
     (size ∙ ap (λ (n : ℕ). 2 + n) (sym (prefix_len-chars is_blank t blank_ascii rest)))
     (sym split ∙ begins.spells) begins.allowed begins.taken
-
-pub slash_line_feed : (bytes : List ℕ) → first_passes is_slash bytes ≡ true →
-    first_passes (λ c. c == 10) (drop 1 bytes) ≡ true → bytes ≡ 92 ∷ 10 ∷ drop 2 bytes
-slash_line_feed [] e f = cc
-slash_line_feed (b ∷ []) e f = cc
-slash_line_feed (b ∷ c ∷ bytes) e f =
-    ap (λ (n : ℕ). n ∷ c ∷ bytes) (eqb-true b 92 e) ∙ ap (λ (n : ℕ). 92 ∷ n ∷ bytes) (eqb-true c 10 f)
 
 -- An escape
 

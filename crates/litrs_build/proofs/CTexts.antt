@@ -6,7 +6,7 @@ use Rattle.std.specs.List.{list_any, prefix_len, position_or_len}
 use Rattle.std.specs.Str.{chars, IsUtf8, is_utf8, encode_utf8_all, continuation_len}
 use Rattle.std.proofs.lemmas.Bool.{and_from, and_parts, cond-true, cond-false, false_from_ne_true, eqb-false, ne_eqb, ltb-false}
 use Rattle.std.proofs.lemmas.List.{append_assoc, append-nil, take-append-drop, nil_from_length}
-use Rattle.std.proofs.lemmas.Str.{encodes-append, encodes-chars, scalars-chars, chars-nil, chars_past_char, is_utf8-from_IsUtf8, IsUtf8-from_is_utf8, drop_past_char, length-encode, len_utf8_bounds}
+use Rattle.std.proofs.lemmas.Str.{encodes-append, encodes-chars, scalars-chars, is_utf8-from_IsUtf8, IsUtf8-from_is_utf8, drop_past_char, length-encode, len_utf8_bounds}
 use lib.Utf8.{scalar, scalars}
 use Rattle.litrs_base.specs.Quotes.{c_string_switches}
 use Rattle.litrs_base.specs.declared.quotes.StringKind.TheVariants.{CString as c_string_kind}
@@ -89,9 +89,6 @@ pub len_within : (bytes : List ℕ) (c : ℕ) → 0 < length bytes → first_cha
 len_within [] c some e = absurd (omega arith)
 len_within (b ∷ bs) c some e = first_len (Some c) b bs e
 
-pub positive_len : (c : ℕ) → 0 < len_utf8 c
-positive_len c = let least = (len_utf8_bounds c).0 in omega (arith, least)
-
 -- the code finds the first character
 
 pub first_read : (bytes front : List ℕ) (len : ℕ) → 0 < length bytes → front ≡ take len bytes →
@@ -119,15 +116,6 @@ first_none (b ∷ bs) front len some cut size none =
     let fails : is_utf8 (take n (b ∷ bs)) ≡ false = false_from_ne_true (is_utf8 (take n (b ∷ bs)))
     (λ passes. none (IsUtf8-from_is_utf8 front (ap is_utf8 same ∙ passes))) in
     sym (cond-false (is_utf8 (take n (b ∷ bs))) (slice_get (chars (take n (b ∷ bs))) 0) None fails)
-
-pub first_of_text : (text later : List ℕ) (c : ℕ) → IsUtf8 text → text ≡ encode_utf8 c ++ later →
-    Some c ≡ slice_get (chars text) 0
-first_of_text text later c u step =
-    sym (ap (λ (t : List ℕ). slice_get t 0) (chars_past_char text later c u step))
-
-pub first_of_none : (text : List ℕ) → length text ≡ 0 → None ≡ slice_get (chars text) 0
-first_of_none text none =
-    sym (ap (λ (t : List ℕ). slice_get t 0) (ap chars (nil_from_length text none) ∙ chars-nil))
 
 -- The value
 

@@ -13,7 +13,8 @@ use Rattle.std.proofs.lemmas.List.Sums.{count_by-le-length}
 use Rattle.std.proofs.lemmas.Str.{digit_value-digit_char}
 use Rattle.litrs_base.specs.Numeral.{place_sum, is_no_underscore, numeral}
 use Rattle.litrs_base.specs.Text.{first_passes}
-use Rattle.litrs_build.proofs.HexDigits.{hex_glyphs, glyph_passes, digits_pass, digits_count, first_from, place_after, filter_kept, length_digits}
+use Rattle.litrs_build.proofs.HexDigits.{hex_glyphs, glyph_passes, digits_pass, digits_count, place_after, filter_kept, length_digits}
+use Rattle.litrs_build.proofs.GroupLemmas.{first_of_all}
 
 -- a digit in upper case is that in lower case, in upper case
 glyph_upper : (d : ℕ) → d < 16 → digit_glyph true d ≡ to_ascii_uppercase (digit_glyph false d)
@@ -62,7 +63,7 @@ cased_digits_pass true p low high n =
 pub cased_digits_begin : (upper : Bool) (n : ℕ) → n < 16 ^ 64 →
     first_passes is_ascii_hexdigit (digits 16 upper n) ≡ true
 cased_digits_begin upper n small =
-    first_from is_ascii_hexdigit (digits 16 upper n)
+    first_of_all is_ascii_hexdigit (digits 16 upper n)
     (digits_is_IsNumeral 16 upper (omega arith) (omega arith) n small).0.0
     (cased_digits_pass upper is_ascii_hexdigit refl refl n)
 

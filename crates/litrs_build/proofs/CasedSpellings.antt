@@ -14,14 +14,13 @@ use Rattle.litrs_base.specs.declared.quotes.Switches.{Switches}
 use Rattle.litrs_grammar.specs.Escape.{Escape, simple_escape, hex_escape, unicode_escape, is_escape, is_simple, is_hex_or_underscore, pair_value, hex_value, simple_value, allows_byte, allows_value, escape_value, value_bytes}
 use Rattle.litrs_grammar.specs.Quoted.{is_plain, is_item, item_text, item_value, takes_all_blanks}
 use Rattle.litrs_grammar.proofs.Laws.Escape.{by_simple}
-use Rattle.litrs_build.specs.Rewriting.{is_upper, cased_item, own_spelling, after_blanks}
-use Rattle.litrs_build.specs.Spelling.{char_spelling, spelled_item}
+use Rattle.litrs_build.specs.Rewriting.{own_spelling, after_blanks}
+use Rattle.litrs_build.specs.Spelling.{char_spelling, is_upper, cased_item}
 use Rattle.litrs_build.specs.declared.rewriting.Before.{Before}
 use Rattle.litrs_build.specs.declared.rewriting.Before.TheVariants.{Text, Mark, Continuation}
 use Rattle.litrs_build.specs.declared.spelling.Spelling.{Spelling}
 use Rattle.litrs_build.specs.declared.spelling.Spelling.TheVariants.{Plain, Simple, Hex, Unicode}
 use Rattle.litrs_build.specs.declared.style.Case.{Case}
-use Rattle.litrs_build.specs.declared.style.Case.TheVariants.{Lower, Upper}
 use Rattle.litrs_build.proofs.CasedDigits.{cased_glyph_passes, cased_digits_pass, cased_digits_begin, cased_numeral, cased_count, cased_value}
 use Rattle.litrs_build.proofs.Spellings.{IsOther, spelling_by, scalar_small, scalars_all, scalars_append, or_true, all_append, encodes_ascii}
 
@@ -129,14 +128,6 @@ cased_scalars w plain case (Unicode c) fits =
     (scalars_all (digits 16 (is_upper case) c)
     (cased_digits_pass (is_upper case) scalar refl refl c)) refl
 
--- In lower case they are those of a literal that is built
-
-pub lower_item : (s : Spelling) → cased_item Lower s ≡ spelled_item s
-lower_item (Plain c) = refl
-lower_item (Simple c) = refl
-lower_item (Hex b) = refl
-lower_item (Unicode c) = refl
-
 -- The spelling of an escape in its own form
 
 pub own_fits : (w : Switches) (plain : ℕ → Bool) (e : Escape) → is_escape w e ≡ true →
@@ -234,23 +225,23 @@ after_blanks_spelled w plain Continuation value (Hex b) allowed fits is =
 after_blanks_spelled w plain Continuation value (Unicode c) allowed fits is =
     record { fits = fits; is_value = is; safe = λ same. tt }
 
--- In upper case, byte by byte
+-- `\u{`, the digits and `}`, byte by byte
 
-pub upper_pushed : (s : Spelling) (c n : ℕ) (old one two three : List ℕ) → s ≡ Unicode c → n ≡ c →
-    one ≡ old ++ (92 ∷ 117 ∷ 123 ∷ []) →
-    two ≡ one ++ digits 16 true n → three ≡ two ++ encode_utf8 125 →
-    three ≡ old ++ encode_utf8_all (item_text (cased_item Upper s))
+pub unicode_pushed : (case : Case) (s : Spelling) (c n : ℕ) (old one two three : List ℕ) →
+    s ≡ Unicode c → n ≡ c → one ≡ old ++ (92 ∷ 117 ∷ 123 ∷ []) →
+    two ≡ one ++ digits 16 (is_upper case) n → three ≡ two ++ encode_utf8 125 →
+    three ≡ old ++ encode_utf8_all (item_text (cased_item case s))
 unfolding encode_utf8
-upper_pushed s c n old one two three spelled number first second third =
+unicode_pushed case s c n old one two three spelled number first second third =
     let front : List ℕ = 92 ∷ 117 ∷ 123 ∷ [] in
-    let ds = digits 16 true c in
+    let ds = digits 16 (is_upper case) c in
     let ascii : list_all is_ascii (front ++ (ds ++ 125 ∷ [])) ≡ true =
-    all_append is_ascii ds (125 ∷ []) (cased_digits_pass true is_ascii refl refl c) refl in
+    all_append is_ascii ds (125 ∷ []) (cased_digits_pass (is_upper case) is_ascii refl refl c) refl in
     let grouped : ((old ++ front) ++ ds) ++ 125 ∷ [] ≡ old
     ++ (front ++ (ds ++ 125 ∷ [])) = simp append_assoc in
     third ∙ (ap (λ (x : List ℕ). x ++ encode_utf8 125) (second
-    ∙ ap (λ (x : List ℕ). x ++ digits 16 true n) first)
-    ∙ (ap (λ (m : ℕ). ((old ++ front) ++ digits 16 true m) ++ 125 ∷ []) number
+    ∙ ap (λ (x : List ℕ). x ++ digits 16 (is_upper case) n) first)
+    ∙ (ap (λ (m : ℕ). ((old ++ front) ++ digits 16 (is_upper case) m) ++ 125 ∷ []) number
     ∙ (grouped ∙ (ap (λ (x : List ℕ). old ++ x)
     (sym (encodes_ascii (front ++ (ds ++ 125 ∷ [])) ascii))
-    ∙ ap (λ (v : Spelling). old ++ encode_utf8_all (item_text (cased_item Upper v))) (sym spelled)))))
+    ∙ ap (λ (v : Spelling). old ++ encode_utf8_all (item_text (cased_item case v))) (sym spelled)))))

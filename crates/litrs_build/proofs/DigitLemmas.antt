@@ -194,14 +194,6 @@ pub write_fits : (b rest start : ℕ) → 2 ≤ b → 0 < rest → length (digit
 write_fits b rest start two some fits =
     let one = length-digits_of_step b rest two some in (omega arith, omega arith)
 
-pub write_done : (b value rest start : ℕ) (buffer : List ℕ) → 0 < value → rest ≡ 0 →
-    map digit_char (digits_of b rest) ++ drop start buffer ≡ map digit_char (digits_of b value) →
-    drop start buffer ≡ digits_in_radix b value
-write_done b value rest start buffer some none so_far =
-    sym (ap (λ n. map digit_char (digits_of b n) ++ drop start buffer) none)
-    ∙ (so_far ∙ sym (cond-false (eqb value 0) (codes "0") (map digit_char (digits_of b value))
-    (ne_eqb value 0 (λ e. omega arith))))
-
 pub write_zero : (b value : ℕ) (buffer : List ℕ) → value ≡ 0 → length buffer ≡ 128 →
     drop 127 (set buffer 127 48) ≡ digits_in_radix b value
 write_zero b value buffer is_zero len =

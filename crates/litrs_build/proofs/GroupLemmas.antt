@@ -83,10 +83,6 @@ pub digits_of-digit : (c : ℕ) (r : List ℕ) → (c ≡ 95 → ⊥) →
     digits_of (c ∷ r) ≡ to_ascii_lowercase c ∷ digits_of r
 digits_of-digit c r ne = ap (map to_ascii_lowercase) (filter_at c r (no_underscore c ne))
 
-pub count-underscore : (c : ℕ) (r : List ℕ) → c ≡ 95 →
-    length (filter is_no_underscore (c ∷ r)) ≡ length (filter is_no_underscore r)
-count-underscore c r is = ap (λ n. length (filter is_no_underscore (n ∷ r))) is
-
 pub count-digit : (c : ℕ) (r : List ℕ) → (c ≡ 95 → ⊥) →
     length (filter is_no_underscore (c ∷ r)) ≡ suc (length (filter is_no_underscore r))
 count-digit c r ne = ap length (filter_at c r (no_underscore c ne))

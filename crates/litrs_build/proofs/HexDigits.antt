@@ -12,6 +12,7 @@ use Rattle.std.proofs.lemmas.List.Sums.{count_by-le-length}
 use Rattle.std.proofs.Math.Nat.{pow-zero, pow-suc}
 use Rattle.litrs_base.specs.Numeral.{place_sum, is_no_underscore, numeral}
 use Rattle.litrs_base.specs.Text.{first_passes}
+use Rattle.litrs_build.proofs.GroupLemmas.{first_of_all}
 
 -- a test that all of a list pass, each of them passes
 pub passes_at : (p : ℕ → Bool) (t : List ℕ) (i : ℕ) → list_all p t ≡ true → i < length t →
@@ -71,15 +72,10 @@ pub digits_pass : (p : ℕ → Bool) → list_all p hex_glyphs ≡ true → (n :
 unfolding digits
 digits_pass p all n = passes_onto p all 64 n [] refl
 
-pub first_from : (p : ℕ → Bool) (t : List ℕ) → 0 < length t → list_all p t ≡ true →
-    first_passes p t ≡ true
-first_from p [] some all = absurd (omega arith)
-first_from p (c ∷ t) some all = (and_parts (p c) (list_all p t) all).0
-
 pub digits_begin : (p : ℕ → Bool) → list_all p hex_glyphs ≡ true → (n : ℕ) → n < 16 ^ 64 →
     first_passes p (digits 16 false n) ≡ true
 digits_begin p all n small =
-    first_from p (digits 16 false n)
+    first_of_all p (digits 16 false n)
     (digits_is_IsNumeral 16 false (omega arith) (omega arith) n small).0.0 (digits_pass p all n)
 
 -- Their value.

@@ -29,6 +29,7 @@ use Rattle.litrs_build.specs.WrittenDigits.{written_digits, grouped, ends_group}
 use Rattle.litrs_build.specs.BuiltInteger.{NoIntegerHasSuffix, is_integer_suffix, is_base_letter, needs_separator, main_part, built_integer}
 use Rattle.litrs_build.proofs.DigitLemmas.{written-pass, written-filled, written-value, written-lower}
 use Rattle.litrs_build.proofs.GroupLemmas.{first_of_all, any_of_first, filter_grouped, all_grouped, first_grouped, digits_are_no_lines, lower_all_twice, digits_of-digit, filter_all}
+use Rattle.litrs_grammar.proofs.LongerTexts.Integer.{under_stays}
 
 -- Suffixes.
 
@@ -134,12 +135,6 @@ no_prefix group (c ∷ d ∷ ds) suffix filled all =
 
 -- The integer.
 
-line_passes : (base : IntegerBase) → is_digit_or_underscore base 95 ≡ true
-line_passes Binary = refl
-line_passes Octal = refl
-line_passes Decimal = refl
-line_passes Hexadecimal = refl
-
 all_separated : (p : ℕ → Bool) (v : Bool) → p 95 ≡ true →
     list_all p (if v then 95 ∷ [] else []) ≡ true
 all_separated p true line = and_from (p 95) true line refl
@@ -154,7 +149,7 @@ main_passes base group ds suffix all =
     (λ c h. or_left (is_digit base c) (eqb c 95) h) ds all in
     let v = needs_separator base ds suffix in
     list_all-append p (grouped group ds) (if v then 95 ∷ [] else [])
-    (all_grouped p group ds (line_passes base) weaker) (all_separated p v (line_passes base))
+    (all_grouped p group ds (under_stays base) weaker) (all_separated p v (under_stays base))
 
 main_first : (base : IntegerBase) (group : ℕ) (ds suffix : List ℕ) → 0 < length ds →
     list_all (is_digit base) ds ≡ true →

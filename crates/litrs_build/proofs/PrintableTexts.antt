@@ -7,11 +7,12 @@ use Rattle.litrs_base.specs.Characters.{is_ascii}
 use Rattle.litrs_grammar.specs.Quoted.{item_text, body_text}
 use Rattle.litrs_build.specs.declared.spelling.Spelling.{Spelling}
 use Rattle.litrs_build.specs.declared.spelling.Spelling.TheVariants.{Plain, Simple, Hex, Unicode}
+use Rattle.litrs_build.specs.declared.style.Case.TheVariants.{Lower}
 use Rattle.litrs_build.specs.Laws.{CharsArePrintable, BytesArePrintable, StringsArePrintable, ByteStringsArePrintable, CStringsArePrintable}
 use Rattle.std.specs.Prelude.{Option, Some, None}
 use Rattle.litrs_build.specs.CStrings.{first_char, spelling_or_byte, len_or_byte, c_items}
 use Rattle.litrs_build.specs.Printable.{is_printable}
-use Rattle.litrs_build.specs.Spelling.{char_spelling, byte_spelling, is_shown, is_escaped, hex_digit, spelled_item}
+use Rattle.litrs_build.specs.Spelling.{char_spelling, byte_spelling, is_shown, is_escaped, cased_digit, spelled_item}
 use Rattle.litrs_build.specs.Written.{char_items, byte_items}
 use Rattle.litrs_build.proofs.PrintableAscii.{is_plain, plain_printable, plain_all}
 use Rattle.litrs_build.proofs.HexDigits.{hex_glyphs, glyph_passes, digits_pass}
@@ -31,7 +32,7 @@ plain_shows m c shown = and_from _ _ (and_parts (is_printable c) _ shown).0 refl
 hex_shows : (b : ℕ) → b < 256 → Shows (Hex b)
 hex_shows b small =
     all_append is_printable (92 ∷ 120 ∷ [])
-    (hex_digit (b / 16) ∷ hex_digit (b % 16) ∷ []) (plain_all (92 ∷ 120 ∷ []) refl)
+    (cased_digit Lower (b / 16) ∷ cased_digit Lower (b % 16) ∷ []) (plain_all (92 ∷ 120 ∷ []) refl)
     (and_from _ _ (glyph_passes is_printable (plain_all hex_glyphs refl) (b / 16) (omega arith))
     (and_from _ _ (glyph_passes is_printable (plain_all hex_glyphs refl) (b % 16) (omega arith)) refl))
 

@@ -13,8 +13,8 @@ use Rattle.litrs_grammar.specs.CharByte.{CharItem, plain_char, escaped_char, cha
 use Rattle.litrs_grammar.specs.Escape.{Escape, simple_escape, hex_escape, unicode_escape, is_escape, is_simple, simple_value, pair_value, hex_value, allows_value, escape_value}
 use Rattle.litrs_grammar.specs.Quoted.{item_text, body_text, takes_all_blanks}
 use Rattle.litrs_build.specs.BodyItem.{is_any_item}
-use Rattle.litrs_build.specs.Rewriting.{needed_char, needed_spelling, own_spelling, item_rewriting, items_of, cased_item, cased_char, char_item_of, as_item, is_upper}
-use Rattle.litrs_build.specs.Spelling.{char_spelling}
+use Rattle.litrs_build.specs.Rewriting.{needed_char, needed_spelling, own_spelling, item_rewriting, items_of, char_item_of, as_item}
+use Rattle.litrs_build.specs.Spelling.{char_spelling, cased_item, cased_char, is_upper}
 use Rattle.litrs_build.specs.declared.rewriting.Before.TheVariants.{Mark}
 use Rattle.litrs_build.specs.declared.rewriting.Rewriting.{Rewriting}
 use Rattle.litrs_build.specs.declared.rewriting.Rewriting.TheVariants.{Unchanged, Spelled}

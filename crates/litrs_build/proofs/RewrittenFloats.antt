@@ -16,7 +16,7 @@ use Rattle.litrs_base.specs.declared.integer.IntegerBase.TheVariants.{Decimal}
 use Rattle.litrs_base.proofs.Chars.{OnlyAscii}
 use Rattle.litrs_grammar.specs.Float.{FloatParts, IsFloat, float_text, fraction_text, number_part, is_decimal_char, is_decimal_literal, is_exponent, is_exponent_number, is_float_form, is_sign, is_underscore, sign_len}
 use Rattle.litrs_grammar.specs.Integer.{is_e}
-use Rattle.litrs_grammar.proofs.FloatCuts.{fraction_passes, is_exponent_front, number_part-suffix}
+use Rattle.litrs_grammar.proofs.FloatCuts.{fraction_passes, is_exponent_front, number_part-suffix, decimal_sign}
 use Rattle.litrs_grammar.proofs.Laws.Float.{float_is_cut}
 use Rattle.litrs_grammar.proofs.Spans.Float.{is_number_char, number_part_chars}
 use Rattle.litrs_build.specs.RewrittenFloat.{grouped_after, kept_parts, grouped_parts, part_lens, regrouped, regrouped_fraction, rewritten_exponent, regrouped_float, rewritten_float}
@@ -183,12 +183,9 @@ record IsSigned (group : Option ℕ) (cs : List ℕ) : Type 0 where
   digits : drop (sign_len (signed group cs)) (signed group cs)
       ≡ regrouped group (drop (sign_len cs) cs)
 
-no_sign : (c : ℕ) → is_decimal_char c ≡ true → is_sign c ≡ false
-no_sign c is = grind (arith, nat_tests)
-
 digits_first : (t : List ℕ) → list_all is_decimal_char t ≡ true → first_passes is_sign t ≡ false
 digits_first [] all = refl
-digits_first (c ∷ t) all = no_sign c (and_parts (is_decimal_char c) (list_all is_decimal_char t) all).0
+digits_first (c ∷ t) all = decimal_sign c (and_parts (is_decimal_char c) (list_all is_decimal_char t) all).0
 
 -- the length of a sign, by the test of the first character
 abbrev len_by : Bool → ℕ
@@ -538,15 +535,3 @@ written_float style d h lens number integer exponent suffix text fraction is num
     (float_chars style.exponents lens d h suffix text of_suffix (written
     ∙ (λ i. (regrouped lens.integer (integer_is i) ++ (fraction_text (of_fraction i)
     ++ rewritten_exponent style.exponents lens.exponent (exponent_is i))) ++ suffix)))
-
--- the exponent: its letter, and then its number
-pub exponent_step : (case : Option Case) (group : Option ℕ) (letter digit : ℕ)
-    (number old one new : List ℕ) → digit ≡ cased case letter → one ≡ old ++ (digit ∷ []) →
-    new ≡ one
-    ++ (take (sign_len number) number ++ regrouped group (drop (sign_len number) number)) →
-    new ≡ old ++ rewritten_exponent case group (letter ∷ number)
-exponent_step case group letter digit number old one new digit_is first second =
-    let rest = take (sign_len number) number ++ regrouped group (drop (sign_len number) number) in
-    second ∙ (ap (λ (t : List ℕ). t ++ rest)
-    (first ∙ ap (λ (n : ℕ). old ++ (n ∷ [])) digit_is)
-    ∙ append_assoc old (cased case letter ∷ []) rest)

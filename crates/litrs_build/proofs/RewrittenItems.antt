@@ -12,8 +12,8 @@ use Rattle.litrs_base.specs.declared.quotes.Switches.{Switches}
 use Rattle.litrs_grammar.specs.Escape.{Escape, simple_escape, hex_escape, unicode_escape, is_escape, is_simple, simple_value, pair_value, hex_value, allows_byte, allows_value, escape_value, value_bytes}
 use Rattle.litrs_grammar.specs.Quoted.{Item, plain_item, escape_item, continuation, is_plain, is_item, item_text, item_value, body_text, body_value, is_body, takes_all_blanks}
 use Rattle.litrs_grammar.proofs.Laws.Escape.{by_simple}
-use Rattle.litrs_build.specs.Rewriting.{is_mark, needed_char, needed_spelling, own_spelling, plain_rewriting, escape_rewriting, line_feed_rewriting, continuation_rewriting, item_rewriting, items_of, before_next, before_after, rewritten_items, cased_item}
-use Rattle.litrs_build.specs.Spelling.{char_spelling}
+use Rattle.litrs_build.specs.Rewriting.{is_mark, needed_char, needed_spelling, own_spelling, plain_rewriting, escape_rewriting, line_feed_rewriting, continuation_rewriting, item_rewriting, items_of, before_next, before_after, rewritten_items}
+use Rattle.litrs_build.specs.Spelling.{char_spelling, cased_item}
 use Rattle.litrs_build.specs.declared.rewriting.Before.{Before}
 use Rattle.litrs_build.specs.declared.rewriting.Before.TheVariants.{Continuation}
 use Rattle.litrs_build.specs.declared.rewriting.Rewriting.{Rewriting}
@@ -103,7 +103,7 @@ KeepsLines style (plain_item c) = Unit {0}
 KeepsLines style (escape_item e) = Unit {0}
 KeepsLines style (continuation blanks) = style.lines ≡ lines_kept
 
-by_line_feed : (lines : Lines) (P : Rewriting → Type 0) → P Unchanged → P (Spelled (Simple 110)) →
+pub by_line_feed : (lines : Lines) (P : Rewriting → Type 0) → P Unchanged → P (Spelled (Simple 110)) →
     P (line_feed_rewriting lines)
 by_line_feed lines_kept P unchanged spelled = unchanged
 by_line_feed Joined P unchanged spelled = spelled

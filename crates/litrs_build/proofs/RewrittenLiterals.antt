@@ -45,11 +45,6 @@ use Rattle.litrs_build.proofs.Spellings.{scalars_append}
 
 -- The front of a text
 
-front_scalars : (kind : StringKind) → scalars (quoted_front kind) ≡ true
-front_scalars string_kind = refl
-front_scalars byte_string_kind = refl
-front_scalars c_string_kind = refl
-
 char_front_scalars : (kind : CharKind) → scalars (char_front kind) ≡ true
 char_front_scalars char_kind = refl
 char_front_scalars byte_kind = refl

@@ -23,10 +23,10 @@ use Rattle.litrs_grammar.specs.Float.{is_underscore}
 use Rattle.litrs_grammar.specs.Integer.{IntegerParts, IsInteger}
 use Rattle.litrs_grammar.specs.Literal.{StringParts, quoted_parts, raw_parts, IsString, Derivation, a_bool, an_integer, a_float, a_char, a_byte, a_string, a_byte_string, a_c_string, IsLiteral}
 use Rattle.litrs_grammar.specs.Quoted.{Item, plain_item, escape_item, continuation, is_item, item_text, body_text, is_body}
-use Rattle.litrs_build.specs.Rewriting.{is_mark, is_upper, after_blanks, needed_char, needed_spelling, own_spelling, plain_rewriting, escape_rewriting, line_feed_rewriting, continuation_rewriting, item_rewriting, items_of, before_next, before_after, rewritten_items, cased_item, cased_char, char_item_of, as_item, rewritten_string, rewritten_char, rewritten}
+use Rattle.litrs_build.specs.Rewriting.{is_mark, after_blanks, needed_char, needed_spelling, own_spelling, plain_rewriting, escape_rewriting, line_feed_rewriting, continuation_rewriting, item_rewriting, items_of, before_next, before_after, rewritten_items, char_item_of, as_item, rewritten_string, rewritten_char, rewritten}
 use Rattle.litrs_build.specs.BuiltInteger.{main_part}
 use Rattle.litrs_build.specs.RewrittenInteger.{cased, len_of, group_of, rewritten_main, rewritten_integer}
-use Rattle.litrs_build.specs.Spelling.{char_spelling}
+use Rattle.litrs_build.specs.Spelling.{char_spelling, is_upper, cased_item, cased_char}
 use Rattle.litrs_build.specs.Written.{quoted_of}
 use Rattle.litrs_build.specs.declared.rewriting.Before.{Before}
 use Rattle.litrs_build.specs.declared.rewriting.Before.TheVariants.{Text, Mark, Continuation}
@@ -48,7 +48,7 @@ use Rattle.litrs_build.proofs.CasedSpellings.{cased_pair, number_is, own_fits, b
 use Rattle.litrs_build.proofs.IntegerLemmas.{digits_left}
 use Rattle.litrs_build.proofs.RewrittenChars.{as_item_text}
 use Rattle.litrs_build.proofs.RewrittenFloats.{float_twice}
-use Rattle.litrs_build.proofs.RewrittenItems.{scalars_parts, simple_low}
+use Rattle.litrs_build.proofs.RewrittenItems.{scalars_parts, simple_low, by_line_feed}
 use Rattle.litrs_build.proofs.RewrittenLiterals.{item_scalars}
 use Rattle.litrs_build.proofs.Spellings.{spelling_by, or_false}
 
@@ -215,11 +215,6 @@ by_escape escapes_kept q before e P unchanged own needed = unchanged
 by_escape Respelled q before e P unchanged own needed = own refl
 by_escape Needed q before e P unchanged own needed = needed refl
 
-by_lines : (lines : Lines) (P : Rewriting → Type 0) → P Unchanged → P (Spelled (Simple 110)) →
-    P (line_feed_rewriting lines)
-by_lines lines_kept P unchanged spelled = unchanged
-by_lines Joined P unchanged spelled = spelled
-
 by_continuation : (lines : Lines) (P : Rewriting → Type 0) → P Unchanged → P Removed →
     P (continuation_rewriting lines)
 by_continuation lines_kept P unchanged removed = unchanged
@@ -235,7 +230,7 @@ pub by_stable : (w : Switches) (style : Style) (q : ℕ) (before : Before) (item
 by_stable w style q before (plain_item c) value ascii plain escape P unchanged spelled removed =
     cond_both (c == 10) (line_feed_rewriting style.lines)
     (plain_rewriting style.escapes q before c) P
-    (λ line. by_lines style.lines P unchanged
+    (λ line. by_line_feed style.lines P unchanged
     (spelled (Simple 110) (stable_line_feed style q before style.escapes refl)))
     (λ other. by_plain style.escapes q before c P unchanged
     (λ needed. spelled _ (stable_needed_char style q before c value ascii needed (plain c refl))))

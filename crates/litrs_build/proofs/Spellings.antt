@@ -5,7 +5,6 @@ use Rattle.std.specs.Fmt.{digits}
 use Rattle.std.specs.List.{list_all}
 use Rattle.std.specs.Str.{encode_utf8_all}
 use Rattle.std.proofs.lemmas.Bool.{and_from, and_parts, cond_both, eqb-true, eqb-false, ltb-true}
-use Rattle.std.proofs.lemmas.List.{append_assoc}
 use Rattle.std.proofs.lemmas.Str.{encode_ascii}
 use lib.Utf8.{scalar, scalars, scalar_cases, low_scalar}
 use Rattle.litrs_base.specs.Characters.{is_ascii, is_scalar}
@@ -16,7 +15,8 @@ use Rattle.litrs_base.specs.declared.quotes.CharKind.TheVariants.{Char as char_k
 use Rattle.litrs_grammar.specs.Escape.{simple_escape, hex_escape, unicode_escape, is_escape, is_hex_or_underscore, pair_value}
 use Rattle.litrs_build.specs.declared.spelling.Spelling.{Spelling}
 use Rattle.litrs_build.specs.declared.spelling.Spelling.TheVariants.{Plain, Simple, Hex, Unicode}
-use Rattle.litrs_build.specs.Spelling.{char_spelling, byte_spelling, is_shown, hex_digit}
+use Rattle.litrs_build.specs.declared.style.Case.TheVariants.{Lower}
+use Rattle.litrs_build.specs.Spelling.{char_spelling, byte_spelling, is_shown, cased_digit}
 use Rattle.litrs_build.proofs.HexDigits.{glyph_passes, digits_pass, digits_begin, digits-numeral, digits_count}
 use Rattle.std.proofs.Common.{◌⊎◌, inl, inr}
 use Rattle.std.proofs.lemmas.Bool.{true≢false}
@@ -83,16 +83,16 @@ spelling_by q m c P nul tab line_feed return quote backslash plain hex unicode =
 
 -- Numbers as escapes
 
-pub pair_is : (b : ℕ) → b < 256 → pair_value (hex_digit (b / 16)) (hex_digit (b % 16)) ≡ b
+pub pair_is : (b : ℕ) → b < 256 → pair_value (cased_digit Lower (b / 16)) (cased_digit Lower (b % 16)) ≡ b
 pair_is b small =
-    let high : digit_value (hex_digit (b / 16))
+    let high : digit_value (cased_digit Lower (b / 16))
     ≡ b / 16 = digit_value-digit_char (b / 16) (omega arith) in
-    let low : digit_value (hex_digit (b % 16))
+    let low : digit_value (cased_digit Lower (b % 16))
     ≡ b % 16 = digit_value-digit_char (b % 16) (omega arith) in
     omega (arith, high, low)
 
 hex_fits : (w : Switches) (b : ℕ) → b < 256 → allows_byte w b ≡ true → allows_value w b ≡ true →
-    is_escape w (hex_escape (hex_digit (b / 16)) (hex_digit (b % 16))) ≡ true
+    is_escape w (hex_escape (cased_digit Lower (b / 16)) (cased_digit Lower (b % 16))) ≡ true
 hex_fits w b small byte value =
     let high = glyph_passes is_ascii_hexdigit refl (b / 16) (omega arith) in
     let low = glyph_passes is_ascii_hexdigit refl (b % 16) (omega arith) in
@@ -123,7 +123,7 @@ unicode_fits w c unicode e value =
 abbrev fits : Switches → (ℕ → Bool) → Spelling → Bool
 fits w plain (Plain c) = plain c
 fits w plain (Simple c) = is_escape w (simple_escape c)
-fits w plain (Hex b) = is_escape w (hex_escape (hex_digit (b / 16)) (hex_digit (b % 16)))
+fits w plain (Hex b) = is_escape w (hex_escape (cased_digit Lower (b / 16)) (cased_digit Lower (b % 16)))
 fits w plain (Unicode c) = is_escape w (unicode_escape (digits 16 false c))
 
 item_fits : (w : Switches) (s : Spelling) → is_item w (spelled_item s) ≡ fits w (is_plain w) s
@@ -372,22 +372,3 @@ encodes_ascii (c ∷ t) all =
     let both = and_parts (is_ascii c) (list_all is_ascii t) all in
     ap (λ (x : List ℕ). x ++ encode_utf8_all t) (encode_ascii c (ltb-true c 128 both.0))
     ∙ ap (λ (x : List ℕ). c ∷ x) (encodes_ascii t both.1)
-
-pub unicode_pushed : (s : Spelling) (c n : ℕ) (old one two three : List ℕ) → s ≡ Unicode c → n ≡ c →
-    one ≡ old ++ (92 ∷ 117 ∷ 123 ∷ []) →
-    two ≡ one ++ digits 16 false n → three ≡ two ++ encode_utf8 125 →
-    three ≡ old ++ encode_utf8_all (item_text (spelled_item s))
-unfolding encode_utf8
-unicode_pushed s c n old one two three spelled number first second third =
-    let front : List ℕ = 92 ∷ 117 ∷ 123 ∷ [] in
-    let ds = digits 16 false c in
-    let ascii : list_all is_ascii (front ++ (ds ++ 125 ∷ []))
-    ≡ true = all_append is_ascii ds (125 ∷ []) (digits_pass is_ascii refl c) refl in
-    let grouped : ((old ++ front) ++ ds) ++ 125 ∷ [] ≡ old
-    ++ (front ++ (ds ++ 125 ∷ [])) = simp append_assoc in
-    third ∙ (ap (λ (x : List ℕ). x ++ encode_utf8 125) (second
-    ∙ ap (λ (x : List ℕ). x ++ digits 16 false n) first)
-    ∙ (ap (λ (m : ℕ). ((old ++ front) ++ digits 16 false m) ++ 125 ∷ []) number
-    ∙ (grouped ∙ (ap (λ (x : List ℕ). old ++ x)
-    (sym (encodes_ascii (front ++ (ds ++ 125 ∷ [])) ascii))
-    ∙ ap (λ (v : Spelling). old ++ encode_utf8_all (item_text (spelled_item v))) (sym spelled)))))

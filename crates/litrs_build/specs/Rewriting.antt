@@ -1,8 +1,7 @@
 -- A literal that is rewritten in a style: the items of its body are written anew, one by one. The
 -- Rust Reference, Tokens, Literals: the tables of escapes; Literal expressions: "String
 -- continuation escapes".
-use Rattle.std.specs.Prelude.{ℕ, ◌/◌, ◌%◌, Bool, true, false, ◌==◌, List, [], ◌∷◌, ◌++◌, if◌then◌else◌}
-use Rattle.std.specs.Fmt.{digits, digit_glyph}
+use Rattle.std.specs.Prelude.{ℕ, Bool, true, false, ◌==◌, List, [], ◌∷◌, ◌++◌, if◌then◌else◌}
 use Rattle.std.specs.List.{prefix_len}
 use Rattle.litrs_base.specs.declared.escape.Unescape.{Unescape}
 use Rattle.litrs_base.specs.declared.escape.Unescape.TheVariants.{Byte, Unicode as unicode_value}
@@ -14,7 +13,7 @@ use Rattle.litrs_grammar.specs.Literal.{StringParts, quoted_parts, raw_parts, De
 use Rattle.litrs_build.specs.RewrittenFloat.{keeps_floats, rewritten_float}
 use Rattle.litrs_build.specs.RewrittenInteger.{keeps_integers, rewritten_integer}
 use Rattle.litrs_build.specs.Pieces.{is_plain}
-use Rattle.litrs_build.specs.Spelling.{char_spelling}
+use Rattle.litrs_build.specs.Spelling.{cased_char, cased_item, char_spelling}
 use Rattle.litrs_build.specs.Written.{quoted_of}
 use Rattle.litrs_build.specs.declared.pieces.Charset.{Charset}
 use Rattle.litrs_build.specs.declared.pieces.Charset.TheVariants.{Ascii, Any}
@@ -26,37 +25,10 @@ use Rattle.litrs_build.specs.declared.spelling.Spelling.{Spelling}
 use Rattle.litrs_build.specs.declared.spelling.Spelling.TheVariants.{Plain, Simple, Hex, Unicode}
 use Rattle.litrs_build.specs.declared.style.Style.{Style}
 use Rattle.litrs_build.specs.declared.style.Case.{Case}
-use Rattle.litrs_build.specs.declared.style.Case.TheVariants.{Lower, Upper}
 use Rattle.litrs_build.specs.declared.style.Escapes.{Escapes}
 use Rattle.litrs_build.specs.declared.style.Escapes.TheVariants.{Kept as escapes_kept, Respelled, Needed}
 use Rattle.litrs_build.specs.declared.style.Lines.{Lines}
 use Rattle.litrs_build.specs.declared.style.Lines.TheVariants.{Kept as lines_kept, Joined}
-
--- A spelling with its hex digits in a case.
-
-abbrev pub is_upper : Case → Bool
-is_upper Lower = false
-is_upper Upper = true
-
--- The hex digit of a number, in the case.
-abbrev pub cased_digit : Case → ℕ → ℕ
-cased_digit case n = digit_glyph (is_upper case) n
-
--- The spelling as an item of a string. `\x` has two digits, and `\u{..}` has no leading zeros.
-abbrev pub cased_item : Case → Spelling → Item
-cased_item case (Plain c) = plain_item c
-cased_item case (Simple c) = escape_item (simple_escape c)
-cased_item case (Hex b) =
-    escape_item (hex_escape (cased_digit case (b / 16)) (cased_digit case (b % 16)))
-cased_item case (Unicode c) = escape_item (unicode_escape (digits 16 (is_upper case) c))
-
--- The spelling as the item of a char or a byte.
-abbrev pub cased_char : Case → Spelling → CharItem
-cased_char case (Plain c) = plain_char c
-cased_char case (Simple c) = escaped_char (simple_escape c)
-cased_char case (Hex b) =
-    escaped_char (hex_escape (cased_digit case (b / 16)) (cased_digit case (b % 16)))
-cased_char case (Unicode c) = escaped_char (unicode_escape (digits 16 (is_upper case) c))
 
 -- The spelling of a character or an escape, by what comes before it.
 

@@ -10,6 +10,8 @@ use Rattle.litrs_grammar.specs.Quoted.{Item, plain_item, escape_item}
 use Rattle.litrs_build.specs.Printable.{is_printable}
 use Rattle.litrs_build.specs.declared.spelling.Spelling.{Spelling}
 use Rattle.litrs_build.specs.declared.spelling.Spelling.TheVariants.{Plain, Simple, Hex, Unicode}
+use Rattle.litrs_build.specs.declared.style.Case.{Case}
+use Rattle.litrs_build.specs.declared.style.Case.TheVariants.{Lower, Upper}
 
 -- `true` iff the character would combine with the one before it: it extends a grapheme.
 abbrev pub is_combining : ℕ → Bool
@@ -46,20 +48,34 @@ is_escaped (Simple c) = true
 is_escaped (Hex b) = true
 is_escaped (Unicode c) = true
 
--- The hex digit of a number, in lower case.
-abbrev pub hex_digit : ℕ → ℕ
-hex_digit = digit_glyph false
+-- `true` iff the hex digits are in upper case.
+abbrev pub is_upper : Case → Bool
+is_upper Lower = false
+is_upper Upper = true
+
+-- The hex digit of a number, in the case.
+abbrev pub cased_digit : Case → ℕ → ℕ
+cased_digit case n = digit_glyph (is_upper case) n
 
 -- The spelling as an item of a string. `\x` has two digits, and `\u{..}` has no leading zeros.
-abbrev pub spelled_item : Spelling → Item
-spelled_item (Plain c) = plain_item c
-spelled_item (Simple c) = escape_item (simple_escape c)
-spelled_item (Hex b) = escape_item (hex_escape (hex_digit (b / 16)) (hex_digit (b % 16)))
-spelled_item (Unicode c) = escape_item (unicode_escape (digits 16 false c))
+abbrev pub cased_item : Case → Spelling → Item
+cased_item case (Plain c) = plain_item c
+cased_item case (Simple c) = escape_item (simple_escape c)
+cased_item case (Hex b) =
+    escape_item (hex_escape (cased_digit case (b / 16)) (cased_digit case (b % 16)))
+cased_item case (Unicode c) = escape_item (unicode_escape (digits 16 (is_upper case) c))
 
 -- The spelling as the item of a char or a byte.
+abbrev pub cased_char : Case → Spelling → CharItem
+cased_char case (Plain c) = plain_char c
+cased_char case (Simple c) = escaped_char (simple_escape c)
+cased_char case (Hex b) =
+    escaped_char (hex_escape (cased_digit case (b / 16)) (cased_digit case (b % 16)))
+cased_char case (Unicode c) = escaped_char (unicode_escape (digits 16 (is_upper case) c))
+
+-- The items of a string, and of a char or a byte, with hex digits in lower case.
+abbrev pub spelled_item : Spelling → Item
+spelled_item spelling = cased_item Lower spelling
+
 abbrev pub spelled_char : Spelling → CharItem
-spelled_char (Plain c) = plain_char c
-spelled_char (Simple c) = escaped_char (simple_escape c)
-spelled_char (Hex b) = escaped_char (hex_escape (hex_digit (b / 16)) (hex_digit (b % 16)))
-spelled_char (Unicode c) = escaped_char (unicode_escape (digits 16 false c))
+spelled_char spelling = cased_char Lower spelling

@@ -1,5 +1,5 @@
 //! The items of a body, read one by one.
-ghost use Rattle.std.specs.Prelude.{◌≡◌, ◌==◌, ℕ, List, IsTrue, IsFalse, drop, if◌then◌else◌};
+ghost use Rattle.std.specs.Prelude.{◌≡◌, ◌==◌, ℕ, List, IsTrue, IsFalse, drop};
 ghost use Rattle.litrs_base.specs.Characters.{backslash, line_feed};
 ghost use Rattle.litrs_base.specs.Text.{first_passes};
 ghost use Rattle.litrs_base.specs.declared.quotes.Switches.{Switches};

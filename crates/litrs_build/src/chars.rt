@@ -12,6 +12,7 @@ ghost use Rattle.litrs_build.specs.Written.{written_char, written_byte};
 
 use crate::error::BuildError;
 use crate::spelling::Spelling;
+use crate::style::Case;
 use litrs::{ByteLit, CharLit};
 use litrs_lex::check_suffix;
 use std::alloc::Global;
@@ -93,7 +94,7 @@ fn write_spelling(
     // bounded by the length of the text, which was counted.
     let mut text = String::with_capacity(alloc, len)?;
     text.push_str(front)?;
-    spelling.push_to(&mut text)?;
+    spelling.push_to(&mut text, Case::Lower)?;
     text.push('\'')?;
     text.push_str(suffix)?;
     Ok(text)

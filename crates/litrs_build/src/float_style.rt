@@ -1,5 +1,5 @@
 //! Floats that are rewritten in a style.
-ghost use Rattle.std.specs.Prelude.{◌≡◌, ◌++◌, ◌∷◌, take, drop, filter, option_map, string_bytes, IfOk, OnOk, IfSome};
+ghost use Rattle.std.specs.Prelude.{◌≡◌, ◌++◌, take, drop, filter, option_map, string_bytes, IfOk, OnOk, IfSome};
 ghost use Rattle.std.specs.Str.{chars, IsAscii};
 ghost use Rattle.litrs_base.specs.Numeral.{is_no_underscore};
 ghost use Rattle.litrs_grammar.specs.Float.{float_text, fraction_text, sign_len};

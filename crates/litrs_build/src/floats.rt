@@ -1,5 +1,5 @@
 //! Floats from their parts.
-ghost use Rattle.std.specs.Prelude.{◌≡◌, ◌≤◌, ◌||◌, ◌∷◌, length, ◌++◌, ◌↔◌, ◌⊎◌, ◌&&◌, not, Some, option_map, string_bytes, IsTrue, IfOk, IfErr, OnOk, IsErrOf};
+ghost use Rattle.std.specs.Prelude.{◌≡◌, ◌≤◌, ◌||◌, ◌∷◌, length, ◌++◌, ◌↔◌, ◌⊎◌, ◌&&◌, not, Some, option_map, string_bytes, IfOk, IfErr, OnOk, IsErrOf};
 ghost use Rattle.std.specs.Char.{is_ascii_digit};
 ghost use Rattle.std.specs.List.{list_all, list_any};
 ghost use Rattle.std.specs.Str.{chars};

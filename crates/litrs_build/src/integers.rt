@@ -9,7 +9,6 @@ ghost use Rattle.litrs_base.specs.Derivations.{IsOnlyDerivation};
 ghost use Rattle.litrs_base.specs.Numeral.{is_no_underscore};
 ghost use Rattle.litrs_base.specs.Text.{first_passes};
 ghost use Rattle.litrs_grammar.specs.Integer.{IntegerParts, IsIntegerOf, integer_value, is_e};
-ghost use Rattle.litrs_grammar.specs.Suffix.{is_suffix};
 ghost use Rattle.litrs.specs.IntegerLiteral.{integer_parts};
 ghost use Rattle.litrs.specs.Digits.{digits_of};
 ghost use Rattle.litrs_build.specs.WrittenDigits.{digits_in_radix, written_digits, ends_group, grouped};

@@ -6,6 +6,7 @@ ghost use Rattle.litrs_base.specs.Text.{first_passes};
 ghost use Rattle.litrs_build.specs.Pieces.{is_plain, is_plain_ascii, is_escape, last_byte, piece_text};
 
 use crate::spelling::Spelling;
+use crate::style::Case;
 use std::alloc::AllocError;
 use std::simd::prelude::*;
 
@@ -63,7 +64,7 @@ impl<'a> Piece<'a> {
     {
         match self {
             Piece::Plain(plain) => text.push_str(plain),
-            Piece::Spelled(spelling) => spelling.push_to(text),
+            Piece::Spelled(spelling) => spelling.push_to(text, Case::Lower),
         }
     }
 }

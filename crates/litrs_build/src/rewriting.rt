@@ -1,6 +1,5 @@
 //! Literals that are rewritten in a style.
-ghost use Rattle.std.specs.Prelude.{◌≡◌, ◌<◌, ◌≤◌, ◌==◌, ◌++◌, ◌∷◌, ℕ, List, true, length, IfOk, OnOk, string_bytes, encode_utf8_all, if◌then◌else◌};
-ghost use Rattle.std.specs.Fmt.{digits};
+ghost use Rattle.std.specs.Prelude.{◌≡◌, ◌≤◌, ◌==◌, ◌++◌, ◌∷◌, ℕ, List, length, IfOk, OnOk, string_bytes, encode_utf8_all, if◌then◌else◌};
 ghost use Rattle.std.specs.Str.{chars};
 ghost use Rattle.litrs_base.specs.Characters.{line_feed, double_quote};
 ghost use Rattle.litrs_base.specs.declared.escape.Unescape.{Unescape};
@@ -13,8 +12,8 @@ ghost use Rattle.litrs_grammar.specs.LiteralText.{literal_text, string_text};
 ghost use Rattle.litrs_grammar.specs.Quoted.{Item, item_text, body_text, QuotedParts, IsQuotedLiteral};
 ghost use Rattle.litrs_grammar.specs.Strings.{is_raw};
 ghost use Rattle.litrs.specs.LiteralDerivation.{derivation};
-ghost use Rattle.litrs_build.specs.BodyItem.{Reads, BeginsWithItem, IsBody};
-ghost use Rattle.litrs_build.specs.Rewriting.{is_mark, after_blanks, run_len, needed_char, needed_spelling, plain_rewriting, escape_rewriting, line_feed_rewriting, continuation_rewriting, item_rewriting, before_after, items_of, cased_item, cased_digit, keeps, rewritten, rewritten_items, rewritten_string, rewritten_char};
+ghost use Rattle.litrs_build.specs.BodyItem.{Reads, IsBody};
+ghost use Rattle.litrs_build.specs.Rewriting.{is_mark, after_blanks, run_len, needed_char, needed_spelling, item_rewriting, before_after, items_of, keeps, rewritten, rewritten_items, rewritten_string, rewritten_char};
 ghost use Rattle.litrs_build.specs.WrittenAnew.{HaveSameValue};
 
 use crate::body_item::{BodyItem, read_item, starts_with};
@@ -26,7 +25,6 @@ use crate::style::{Case, Escapes, FloatGroups, Groups, Lines, Style};
 use litrs::{Literal, Text};
 use litrs_lex::{CharKind, StringKind, Switches, Unescape};
 use std::alloc::{AllocError, Global};
-use std::fmt::Write;
 
 /// Returns the text of `lit`, rewritten in `style`: for `"\x4A"` and the escapes that are needed,
 /// that is `"J"`. The text is a literal with the kind, the value and the suffix of `lit`.
@@ -386,61 +384,7 @@ fn push_rewriting(
 {
     match rewriting {
         Rewriting::Unchanged => text.push_str(item),
-        Rewriting::Spelled(spelling) => push_spelling(text, spelling, case),
+        Rewriting::Spelled(spelling) => spelling.push_to(text, case),
         Rewriting::Removed => Ok(()),
     }
-}
-
-/// Appends `spelling`, with its hex digits in this case.
-fn push_spelling(text: &mut String, spelling: Spelling, case: Case) -> Result<(), AllocError>
-    ensures { OnOk result (string_bytes text.new
-        ≡ string_bytes text.old ++ encode_utf8_all (item_text (cased_item case spelling))) }
-{
-    match case {
-        Case::Lower => spelling.push_to(text),
-        Case::Upper => push_upper(text, spelling),
-    }
-}
-
-/// Appends `spelling`, with its hex digits in upper case.
-fn push_upper(text: &mut String, spelling: Spelling) -> Result<(), AllocError>
-    ensures { OnOk result (string_bytes text.new
-        ≡ string_bytes text.old ++ encode_utf8_all (item_text (cased_item Case.Upper spelling))) }
-{
-    match spelling {
-        Spelling::Plain(_) => spelling.push_to(text),
-        Spelling::Simple(_) => spelling.push_to(text),
-        Spelling::Hex(b) => {
-            text.push_str("\\x")?;
-            text.push(upper_digit(b / 16))?;
-            text.push(upper_digit(b % 16))?;
-            Ok(())
-        }
-        Spelling::Unicode(c) => {
-            text.push_str("\\u{")?;
-            push_upper_hex(text, u32::from(c))?;
-            text.push('}')?;
-            Ok(())
-        }
-    }
-}
-
-/// Returns the hex digit of a number below 16, in upper case.
-fn upper_digit(number: u8) -> char
-    requires { number < 16 }
-    ensures { result ≡ cased_digit Case.Upper number }
-{
-    if number < 10 {
-        char::from(b'0' + number)
-    } else {
-        char::from(b'A' + (number - 10))
-    }
-}
-
-/// Appends the hex digits of a number, in upper case.
-fn push_upper_hex(text: &mut String, number: u32) -> Result<(), AllocError>
-    ensures { OnOk result (string_bytes text.new
-        ≡ string_bytes text.old ++ digits 16 true number) }
-{
-    write!(text, "{number:X}")
 }

@@ -1,10 +1,11 @@
 //! The spelling of a character or a byte between quotes.
-ghost use Rattle.std.specs.Prelude.{◌≡◌, ◌≤◌, ◌<◌, ◌++◌, false, OnOk, string_bytes, encode_utf8_all};
+ghost use Rattle.std.specs.Prelude.{◌≡◌, ◌≤◌, ◌<◌, ◌++◌, OnOk, string_bytes, encode_utf8_all};
 ghost use Rattle.std.specs.Fmt.{digits};
 ghost use Rattle.litrs_grammar.specs.Quoted.{item_text};
-ghost use Rattle.litrs_build.specs.Spelling.{char_spelling, byte_spelling, is_escaped, is_shown, shown_or_number, hex_digit, spelled_item};
+ghost use Rattle.litrs_build.specs.Spelling.{char_spelling, byte_spelling, is_escaped, is_shown, shown_or_number, is_upper, cased_digit, cased_item};
 
 use crate::printable::is_printable;
+use crate::style::Case;
 use std::alloc::AllocError;
 use std::fmt::Write;
 use unicode::properties::is_grapheme_extend;
@@ -71,14 +72,14 @@ impl Spelling {
         }
     }
 
-    /// Appends it to `text`.
+    /// Appends it to `text`, with its hex digits in this case.
     ///
     /// # Errors
     ///
     /// Returns `AllocError` if `text` has no room for it and an allocation fails.
-    pub(crate) fn push_to(self, text: &mut String) -> Result<(), AllocError>
+    pub(crate) fn push_to(self, text: &mut String, case: Case) -> Result<(), AllocError>
         ensures { OnOk result (string_bytes text.new
-            ≡ string_bytes text.old ++ encode_utf8_all (item_text (spelled_item self))) }
+            ≡ string_bytes text.old ++ encode_utf8_all (item_text (cased_item case self))) }
     {
         match self {
             Spelling::Plain(c) => text.push(c),
@@ -88,13 +89,13 @@ impl Spelling {
             }
             Spelling::Hex(b) => {
                 text.push_str("\\x")?;
-                text.push(hex_digit(b / 16))?;
-                text.push(hex_digit(b % 16))?;
+                text.push(hex_digit(b / 16, case))?;
+                text.push(hex_digit(b % 16, case))?;
                 Ok(())
             }
             Spelling::Unicode(c) => {
                 text.push_str("\\u{")?;
-                push_hex(text, u32::from(c))?;
+                push_hex(text, u32::from(c), case)?;
                 text.push('}')?;
                 Ok(())
             }
@@ -123,24 +124,31 @@ fn is_shown(c: char, follows_mark: bool) -> bool
     is_printable(c) && !(follows_mark && is_grapheme_extend(c))
 }
 
-/// Returns the hex digit of a number below 16, in lower case.
-fn hex_digit(number: u8) -> char
+/// Returns the hex digit of a number below 16, in this case.
+fn hex_digit(number: u8, case: Case) -> char
     requires { number < 16 }
-    ensures { result ≡ hex_digit number }
+    ensures { result ≡ cased_digit case number }
 {
+    let ten = match case {
+        Case::Lower => b'a',
+        Case::Upper => b'A',
+    };
     if number < 10 {
         char::from(b'0' + number)
     } else {
-        char::from(b'a' + (number - 10))
+        char::from(ten + (number - 10))
     }
 }
 
-/// Appends the hex digits of a number, in lower case.
-fn push_hex(text: &mut String, number: u32) -> Result<(), AllocError>
+/// Appends the hex digits of a number, in this case.
+fn push_hex(text: &mut String, number: u32, case: Case) -> Result<(), AllocError>
     ensures { OnOk result (string_bytes text.new
-        ≡ string_bytes text.old ++ digits 16 false number) }
+        ≡ string_bytes text.old ++ digits 16 (is_upper case) number) }
 {
-    write!(text, "{number:x}")
+    match case {
+        Case::Lower => write!(text, "{number:x}"),
+        Case::Upper => write!(text, "{number:X}"),
+    }
 }
 
 /// Returns the number of hex digits of a character's number.
