@@ -1,7 +1,6 @@
 -- Beginnings of strings of each kind, by their front.
-use Rattle.std.proofs.Common.{◌≡◌, ℕ, Bool, true, false, ◌&&◌, ltb, List, [], ◌∷◌, ◌++◌, length, take, drop, refl, sym, ap, ◌∙◌, subst, arith}
+use Rattle.std.proofs.Common.{◌≡◌, ℕ, Bool, true, false, ◌&&◌, List, [], ◌∷◌, ◌++◌, length, take, drop, refl, sym, ap, ◌∙◌, subst, arith}
 use Rattle.std.specs.Prelude.{◌↔◌, ◌==◌, IsTrue, codes}
-use Rattle.std.specs.List.{list_all}
 use Rattle.std.specs.Str.{chars, IsUtf8}
 use Rattle.std.proofs.lemmas.Bool.{and_left, or_from, eqb-true, eq-eqb, ne_eqb, both_ways}
 use Rattle.std.proofs.lemmas.Str.{chars-nil}
@@ -22,6 +21,7 @@ use Rattle.litrs_grammar.proofs.LongerTexts.String.{quoted_string_begins, raw_st
 use Rattle.litrs_lex.proofs.Dispatch.{dispatch-chars}
 use Rattle.litrs.proofs.Begins.{answer_is, begins_parsed}
 use Rattle.litrs.proofs.Fronts.{front_chars, front_taken}
+use Rattle.litrs_lex.proofs.StringFronts.{quoted_low, raw_low}
 
 -- a text that begins a string of the kind begins a literal, if it is parsed as such a string
 begins_string : (kind : StringKind) (t : List ℕ) →
@@ -39,11 +39,6 @@ string_parsed kind bs b u row is =
 
 -- Quoted
 
-quoted_low : (kind : StringKind) → list_all (λ c. ltb c 128) (quoted_front kind) ≡ true
-quoted_low string_kind = refl
-quoted_low byte_string_kind = refl
-quoted_low c_string_kind = refl
-
 pub quoted_string : (kind : StringKind) (bs : List ℕ) (b : Bool) → IsUtf8 bs →
     begins_with (quoted_front kind) bs ≡ true →
     IsTrue b ↔ BeginsBy (IsQuoted (chars (take (length (quoted_front kind)) bs)) (switches_of kind))
@@ -57,11 +52,6 @@ quoted_string kind bs b u begins is =
     (back (quoted_string_begins kind (chars bs) start))
 
 -- Raw
-
-raw_low : (kind : StringKind) → list_all (λ c. ltb c 128) (raw_front kind) ≡ true
-raw_low string_kind = refl
-raw_low byte_string_kind = refl
-raw_low c_string_kind = refl
 
 pub raw_string : (kind : StringKind) (bs : List ℕ) (b : Bool) → IsUtf8 bs →
     begins_with (raw_front kind) bs ≡ true →

@@ -14,7 +14,7 @@ use Rattle.litrs_base.specs.declared.quotes.StringKind.TheVariants.{String as st
 use Rattle.litrs_base.specs.Quotes.{switches_of, quoted_front, raw_front}
 use Rattle.litrs_grammar.specs.Quoted.{QuotedParts, body_value, IsQuoted, IsQuotedRefusal}
 use Rattle.litrs_grammar.specs.Raw.{has_unicode, allows_nul, raw_refusal}
-use Rattle.litrs_grammar.specs.Literal.{StringParts, quoted_parts, Derivation, a_string, a_byte_string, a_c_string, IsString, kind_parse, IsLiteralOf, string_literal_of}
+use Rattle.litrs_grammar.specs.Literal.{StringParts, quoted_parts, IsString, kind_parse, IsLiteralOf, string_literal_of}
 use Rattle.litrs_grammar.specs.LiteralRefusals.{StringStart, refused_start, quoted_start, raw_start, string_start, string_start_refusal, IsRefusalOfStart, IsStringRefusal, IsKindRefusal}
 use Rattle.litrs_grammar.specs.Allocation.{has_escapes, allocates, takes_memory}
 use Rattle.litrs_grammar.specs.Refused.{IsRefused, IsOutOfMemory, IsRefusedOrOutOfMemory}
@@ -24,12 +24,13 @@ use Rattle.litrs_lex.proofs.Dispatch.{is_empty-chars}
 use Rattle.litrs_lex.specs.QuotedCut.{IsQuotedRefused, IsQuotedOutOfMemory}
 use Rattle.litrs_lex.specs.RawCut.{IsRawRefused}
 use Rattle.litrs_lex.proofs.StringFronts.{quoted_begins, raw_begins, quoted_before, raw_after}
+use Rattle.litrs_grammar.specs.Closing.{a_string_of}
 
 -- the text is refused, or there was no memory for its value
 abbrev pub IsStringError : StringKind → List ℕ → ParseError → Type 0
 IsStringError kind t e = IsRefusedOrOutOfMemory (kind_parse (string_literal_of kind)) t e
 
-in_table : (kind : StringKind) (t : List ℕ) (r : Refusal) → IsStringRefusal kind t r → IsKindRefusal (string_literal_of kind) t r
+pub in_table : (kind : StringKind) (t : List ℕ) (r : Refusal) → IsStringRefusal kind t r → IsKindRefusal (string_literal_of kind) t r
 in_table string_kind t r table = table
 in_table byte_string_kind t r table = table
 in_table c_string_kind t r table = table
@@ -74,18 +75,12 @@ quoted_refused kind bs e u begins refused =
     (subst (λ (front : List ℕ). IsQuotedRefusal front (switches_of kind) (chars bs) (refusal_of e)) (quoted_before kind bs u begins) refused.table)
     refused.char_span
 
--- the derivation of a string of the kind
-abbrev derivation_of : StringKind → StringParts → Derivation
-derivation_of string_kind d = a_string d
-derivation_of byte_string_kind d = a_byte_string d
-derivation_of c_string_kind d = a_c_string d
-
-of_kind : (kind : StringKind) (t : List ℕ) (d : StringParts) → IsString kind t d → IsLiteralOf (kind_parse (string_literal_of kind)) t (derivation_of kind d)
+of_kind : (kind : StringKind) (t : List ℕ) (d : StringParts) → IsString kind t d → IsLiteralOf (kind_parse (string_literal_of kind)) t (a_string_of kind d)
 of_kind string_kind t d r = (refl, r)
 of_kind byte_string_kind t d r = (refl, r)
 of_kind c_string_kind t d r = (refl, r)
 
-escapes_allocate : (kind : StringKind) (d : StringParts) → has_escapes d ≡ true → allocates (derivation_of kind d) ≡ true
+escapes_allocate : (kind : StringKind) (d : StringParts) → has_escapes d ≡ true → allocates (a_string_of kind d) ≡ true
 escapes_allocate string_kind d h = h
 escapes_allocate byte_string_kind d h = h
 escapes_allocate c_string_kind d h = refl
@@ -96,7 +91,7 @@ not_empty (c ∷ t) some = refl
 
 -- a value that is not empty takes memory, and so does each value of a C string
 values_take_memory : (kind : StringKind) (d : QuotedParts) → ((switches_of kind).allow_nul ≡ true → body_value d.items ≢ []) →
-    takes_memory (derivation_of kind (quoted_parts d)) ≡ true
+    takes_memory (a_string_of kind (quoted_parts d)) ≡ true
 values_take_memory string_kind d some = ap not (not_empty (body_value d.items) (some refl))
 values_take_memory byte_string_kind d some = ap not (not_empty (body_value d.items) (some refl))
 values_take_memory c_string_kind d some = refl
@@ -104,7 +99,7 @@ values_take_memory c_string_kind d some = refl
 quoted_out_of_memory : (kind : StringKind) (bs : List ℕ) (e : ParseError) → IsUtf8 bs → begins_with (quoted_front kind) bs ≡ true →
     IsQuotedOutOfMemory (switches_of kind) bs (length (quoted_front kind)) e → IsOutOfMemory (kind_parse (string_literal_of kind)) (chars bs) e
 quoted_out_of_memory kind bs e u begins lack = record {
-  derivation = derivation_of kind (quoted_parts lack.is_cut.parts);
+  derivation = a_string_of kind (quoted_parts lack.is_cut.parts);
   literal = of_kind kind (chars bs) (quoted_parts lack.is_cut.parts)
       (subst (λ (front : List ℕ). IsQuoted front (switches_of kind) (chars bs) lack.is_cut.parts) (quoted_before kind bs u begins) lack.is_cut.only.0);
   allocated = escapes_allocate kind (quoted_parts lack.is_cut.parts) (sym lack.is_cut.has_escape ∙ lack.has_escape);

@@ -140,8 +140,8 @@ typedef struct litrs_literal {
     litrs_bool is_raw;       /* of the three kinds of strings */
     litrs_bool has_fraction; /* of a float: true if it has a period */
     litrs_bool has_value;    /* of a bool, a char, a byte, and an integer below 2^128 */
-    uint64_t value_low;      /* the value modulo 2^64 */
-    uint64_t value_high;     /* the value divided by 2^64, rounded down */
+    uint64_t value_low;      /* the value modulo 2^64, or 0 without has_value */
+    uint64_t value_high;     /* the value divided by 2^64, rounded down, or 0 without has_value */
     litrs_place main;        /* the digits of an integer, of a float before period and exponent */
     litrs_place fraction;    /* of a float: the digits after the period */
     litrs_place exponent;    /* of a float: the exponent, with its letter and sign */

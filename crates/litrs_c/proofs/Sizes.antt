@@ -1,9 +1,7 @@
 -- The sizes of a literal and its parts in bytes.
-use Rattle.std.proofs.Common.{◌≡◌, ℕ, ◌+◌, ◌≤◌, List, [], ◌∷◌, ◌++◌, length, sym, ap, ◌∙◌, append_assoc, append-nil, arith}
+use Rattle.std.proofs.Common.{◌≡◌, ℕ, ◌+◌, List, [], ◌∷◌, ◌++◌, length, sym, ap, ◌∙◌, append_assoc, append-nil, arith}
 use Rattle.std.specs.Str.{chars, IsUtf8}
 use Rattle.std.proofs.lemmas.Str.{encodes-chars}
-use Rattle.litrs_base.specs.declared.integer.IntegerBase.{IntegerBase}
-use Rattle.litrs_base.specs.declared.integer.IntegerBase.TheVariants.{Binary, Octal, Decimal, Hexadecimal}
 use Rattle.litrs_base.specs.Base.{prefix}
 use Rattle.litrs_base.specs.Text.{byte_len}
 use Rattle.litrs_base.proofs.Spans.{byte_len-append}
@@ -61,13 +59,6 @@ suffix_fits bytes suffix d utf8 suffix_utf8 is literal =
     let whole : length bytes ≡ byte_len ends.0 + byte_len (suffix_of d) =
     length-chars bytes (ends.0 ++ suffix_of d) utf8 (sym ends.1) ∙ byte_len-append ends.0 (suffix_of d) in
     (byte_len ends.0, omega arith, size)
-
--- the prefix of an integer has at most two bytes
-pub prefix_fits : (base : IntegerBase) → length (prefix base) ≤ 2
-prefix_fits Binary = omega arith
-prefix_fits Octal = omega arith
-prefix_fits Decimal = omega arith
-prefix_fits Hexadecimal = omega arith
 
 -- the sizes of a front and of a part after it
 pub byte_len-after : (a b c : List ℕ) → byte_len (a ++ (b ++ c)) ≡ byte_len (a ++ b) + byte_len c

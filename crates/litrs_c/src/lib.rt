@@ -74,9 +74,9 @@ pub struct LiteralFields {
     /// `true` if the halves are those of the value: of a bool, a char, a byte, and an integer below
     /// 2^128.
     pub has_value: bool,
-    /// The value modulo 2^64.
+    /// The value modulo 2^64, or 0 if `has_value` is `false`.
     pub value_low: u64,
-    /// The value divided by 2^64.
+    /// The value divided by 2^64, rounded down, or 0 if `has_value` is `false`.
     pub value_high: u64,
     /// The digits of an integer after the prefix, or of a float before a period and an exponent.
     pub main: Place,

@@ -1,5 +1,5 @@
 //! The message of an error.
-ghost use Rattle.std.specs.Prelude.{◌≡◌, ◌^◌, ◌<◌, Some};
+ghost use Rattle.std.specs.Prelude.{◌^◌, ◌<◌, Some};
 ghost use Rattle.litrs_base.specs.Refusal.{refusal_of, refusal_text, span_text};
 ghost use Rattle.litrs_c.specs.Answers.{IsWritten, IsWrittenFrom};
 

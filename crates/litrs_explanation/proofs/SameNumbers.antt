@@ -44,9 +44,6 @@ e_kept c letter = grind (arith, nat_tests)
 no_sign_no_minus : (c : ℕ) → is_sign c ≡ false → is_minus c ≡ false
 no_sign_no_minus c none = grind (arith, nat_tests)
 
-decimal_no_sign : (c : ℕ) → is_decimal_char c ≡ true → is_sign c ≡ false
-decimal_no_sign c is = grind (arith, nat_tests)
-
 -- digits have no case, and no `_`
 digits_lower : (ds : List ℕ) → list_all is_ascii_digit ds ≡ true → map to_ascii_lowercase ds ≡ ds
 digits_lower [] all = refl
@@ -60,10 +57,6 @@ digits_kept (c ∷ ds) all =
     let parts = and_parts (is_ascii_digit c) (list_all is_ascii_digit ds) all in
     filter_at c ds (digit_is_no_line Decimal c parts.0)
     ∙ ap (λ (t : List ℕ). c ∷ t) (digits_kept ds parts.1)
-
-no_sign_first : (ds : List ℕ) → list_all is_decimal_char ds ≡ true → first_passes is_sign ds ≡ false
-no_sign_first [] all = refl
-no_sign_first (c ∷ ds) all = decimal_no_sign c (and_parts (is_decimal_char c) (list_all is_decimal_char ds) all).0
 
 no_minus_first : (ds : List ℕ) → first_passes is_sign ds ≡ false → first_passes is_minus ds ≡ false
 no_minus_first [] none = refl

@@ -2,7 +2,7 @@
 -- bytes of a text.
 -- Below, a text is a literal of its kind if each condition of its grammar computes.
 use Rattle.std.specs.Prelude.{◌≡◌, ◌++◌, ℕ, List, Some, IsTrue, IsFalse, nat_le, true}
-use Rattle.std.specs.Char.{encode_utf8, is_ascii_digit}
+use Rattle.std.specs.Char.{encode_utf8}
 use Rattle.std.specs.List.{list_all, list_any}
 use Rattle.std.proofs.lemmas.Bool.{leb-true}
 use Rattle.unicode_ident.proofs.Computing.{unicode_ident}
@@ -19,7 +19,7 @@ use Rattle.litrs_base.specs.Quotes.{raw_front}
 use Rattle.litrs_grammar.specs.Escape.{escape_refusal}
 use Rattle.litrs_grammar.specs.Quoted.{Item, body_text, is_body, QuotedParts, quoted_text, IsQuoted, is_item_list, item_refusal, IsQuotedRefusal}
 use Rattle.litrs_grammar.specs.CharByte.{CharParts, char_text, is_char_item, IsCharLiteral, char_kind_refusal}
-use Rattle.litrs_grammar.specs.Integer.{is_e, has_prefix, IntegerParts, integer_text, IsIntegerOf, integer_cut, integer_refusal}
+use Rattle.litrs_grammar.specs.Integer.{is_e, IntegerParts, integer_text, IsIntegerOf, integer_cut, integer_refusal}
 use Rattle.litrs_grammar.specs.Float.{FloatParts, float_text, is_underscore, is_exponent, is_decimal_literal, is_float_form, IsFloatOf, float_cut, float_refusal}
 use Rattle.litrs_grammar.specs.Raw.{RawParts, raw_text, raw_closing, occurs, is_raw_char, has_unicode, allows_nul, IsRawLiteral, raw_body_refusal, raw_refusal}
 use Rattle.litrs_grammar.specs.LiteralRefusals.{dispatch}
@@ -43,25 +43,6 @@ prefixed spells digits some_digit ends suffix no_exponent prefix = record {
     no_exponent = no_exponent;
     decimal_digit = λ e. absurd (prefix e);
     decimal_prefix = λ e. absurd (prefix e);
-  };
-}
-
--- one that has none
-pub decimal : {t : List ℕ} {d : IntegerParts} → integer_text d ≡ t →
-    IsTrue (list_all (is_digit_or_underscore d.base) d.main) → IsTrue (list_any (is_digit d.base) d.main) →
-    IsFalse (first_passes (is_digit_or_underscore d.base) d.suffix) → IsTrue (is_suffix d.suffix) →
-    IsFalse (first_passes is_e d.suffix) → IsTrue (first_passes is_ascii_digit d.main) →
-    IsFalse (has_prefix (integer_text d)) → IsIntegerOf t d
-decimal spells digits some_digit ends suffix no_exponent digit prefix = record {
-  spells = spells;
-  grammar = record {
-    digits = digits;
-    some_digit = some_digit;
-    ends = ends;
-    suffix = suffix;
-    no_exponent = no_exponent;
-    decimal_digit = λ e. digit;
-    decimal_prefix = λ e. prefix;
   };
 }
 

@@ -140,7 +140,7 @@ plain_no_refusal w c t h =
     (none_unless (fits_charset w.unicode c) _ _ b.1
     (none_if _ _ _ (and_left _ _ (not-true _ e.0)) refl)))
 
-escape_no_refusal : (w : Switches) (e : Escape) (c : ℕ) (t : List ℕ) → is_escape w e ≡ true → item_refusal w (escape_text e ++ c ∷ t) ≡ None
+pub escape_no_refusal : (w : Switches) (e : Escape) (c : ℕ) (t : List ℕ) → is_escape w e ≡ true → item_refusal w (escape_text e ++ c ∷ t) ≡ None
 unfolding item_refusal
 escape_no_refusal w e c t h =
     let head = escape_head e (c ∷ t) in

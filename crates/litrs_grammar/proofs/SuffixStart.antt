@@ -34,7 +34,7 @@ not_line_feed c h = elim (cases_lt c 128) [
   | inr high ↦ grind (arith, nat_tests)
 ]
 
-starts_continue : (c : ℕ) → starts_identifier c ≡ true → is_xid_continue c ≡ true
+pub starts_continue : (c : ℕ) → starts_identifier c ≡ true → is_xid_continue c ≡ true
 starts_continue c h = elim (or_cases (c == 95) (is_xid_start c) h) [
   | inl underscore ↦ (let e : c ≡ 95 = eqb-true c 95 underscore in subst (λ (x : ℕ). is_xid_continue x ≡ true) (sym e) (is_xid_continue-ascii 95 (omega arith)))
   | inr start ↦ is_xid_start-is_xid_continue c start

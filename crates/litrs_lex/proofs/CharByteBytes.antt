@@ -100,11 +100,6 @@ empty_row kind bs u begins quote =
     ap (char_item_refusal kind) (front_chars bs 39 (omega arith) is)
     ∙ if_false _ _ _ (first_passes-chars (λ c. c == 39) (drop 1 bs) quote_only (after_utf8 bs 39 (omega arith) u is) ∙ quote)
 
--- an escape
-backslash_allowed : (kind : CharKind) → allows_char kind 92 ≡ true
-backslash_allowed char_kind = refl
-backslash_allowed byte_kind = refl
-
 pub escape_row : (kind : CharKind) (bs : List ℕ) (e : ParseError) → begins_with (92 ∷ []) bs ≡ true → IsEscapeRefused (char_switches_of kind) (chars bs) e → IsItemRefused kind (chars bs) e
 escape_row kind bs e begins r =
     let is = front_chars bs 92 (omega arith) (front_byte bs 92 begins) in

@@ -15,6 +15,7 @@ use Rattle.litrs_base.specs.declared.quotes.StringKind.TheVariants.{String as st
 use Rattle.litrs_lex.specs.declared.kind.Front.{Front}
 use Rattle.litrs_lex.specs.declared.kind.Front.TheVariants as front
 use Rattle.litrs_lex.specs.Front.{row_of, BeginsAs, IsFront}
+use Rattle.litrs_grammar.proofs.Laws.Literal.{dispatch_quoted, dispatch_raw}
 
 -- the kind of a refusal that is a row
 abbrev row_error : Dispatch → ParseErrorKind
@@ -119,20 +120,6 @@ no_byte_front f bs is other = not_true (begins_with (codes "b'") bs)
 
 -- Strings
 
-pub quoted_row : (kind : StringKind) (x : List ℕ) →
-    dispatch (quoted_front kind ++ x) ≡ parsed_as (string_literal_of kind)
-unfolding dispatch
-quoted_row string_kind x = refl
-quoted_row byte_string_kind x = refl
-quoted_row c_string_kind x = refl
-
-pub raw_row : (kind : StringKind) (x : List ℕ) →
-    dispatch (raw_front kind ++ x) ≡ parsed_as (string_literal_of kind)
-unfolding dispatch
-raw_row string_kind x = refl
-raw_row byte_string_kind x = refl
-raw_row c_string_kind x = refl
-
 -- kinds with one row are one
 same_kind : (a b : StringKind) → parsed_as (string_literal_of a)
     ≡ parsed_as (string_literal_of b) → a ≡ b
@@ -203,11 +190,11 @@ other_quoted : (kind : StringKind) (bs : List ℕ) → IsFront front.Other bs �
 other_quoted string_kind bs is begins =
     other_row bs (parsed_as string_literal) is
     (ap dispatch (sym (begins_with-split (quoted_front string_kind) bs begins))
-    ∙ quoted_row string_kind _) (λ e. cc) (λ e. cc)
+    ∙ dispatch_quoted string_kind _) (λ e. cc) (λ e. cc)
 other_quoted byte_string_kind bs is begins =
     other_row bs (parsed_as byte_string_literal) is
     (ap dispatch (sym (begins_with-split (quoted_front byte_string_kind) bs begins))
-    ∙ quoted_row byte_string_kind _) (λ e. cc) (λ e. cc)
+    ∙ dispatch_quoted byte_string_kind _) (λ e. cc) (λ e. cc)
 other_quoted c_string_kind bs is begins =
     both_ways (begins_with (codes "c\"") bs) is.begins.0 begins
 
@@ -216,11 +203,11 @@ other_raw : (kind : StringKind) (bs : List ℕ) → IsFront front.Other bs →
 other_raw string_kind bs is begins =
     other_row bs (parsed_as string_literal) is
     (ap dispatch (sym (begins_with-split (raw_front string_kind) bs begins))
-    ∙ raw_row string_kind _) (λ e. cc) (λ e. cc)
+    ∙ dispatch_raw string_kind _) (λ e. cc) (λ e. cc)
 other_raw byte_string_kind bs is begins =
     other_row bs (parsed_as byte_string_literal) is
     (ap dispatch (sym (begins_with-split (raw_front byte_string_kind) bs begins))
-    ∙ raw_row byte_string_kind _) (λ e. cc) (λ e. cc)
+    ∙ dispatch_raw byte_string_kind _) (λ e. cc) (λ e. cc)
 other_raw c_string_kind bs is begins =
     both_ways (begins_with (codes "cr") bs) is.begins.1 begins
 
@@ -230,7 +217,7 @@ pub no_quoted_front : (kind : StringKind) (f : Front) (bs : List ℕ) → IsFron
 no_quoted_front kind f bs is quoted raw = not_true (begins_with (quoted_front kind) bs)
     (λ begins. string_alone kind f bs
     (is.row ∙ (ap dispatch (sym (begins_with-split (quoted_front kind) bs begins))
-    ∙ quoted_row kind _)) quoted raw
+    ∙ dispatch_quoted kind _)) quoted raw
     (λ e. other_quoted kind bs (subst (λ (g : Front). IsFront g bs) e is) begins))
 
 pub no_raw_front : (kind : StringKind) (f : Front) (bs : List ℕ) → IsFront f bs →
@@ -239,5 +226,5 @@ pub no_raw_front : (kind : StringKind) (f : Front) (bs : List ℕ) → IsFront f
 no_raw_front kind f bs is quoted raw = not_true (begins_with (raw_front kind) bs)
     (λ begins. string_alone kind f bs
     (is.row ∙ (ap dispatch (sym (begins_with-split (raw_front kind) bs begins))
-    ∙ raw_row kind _)) quoted raw
+    ∙ dispatch_raw kind _)) quoted raw
     (λ e. other_raw kind bs (subst (λ (g : Front). IsFront g bs) e is) begins))

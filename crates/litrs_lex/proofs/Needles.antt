@@ -9,27 +9,27 @@ use Rattle.litrs_lex.specs.declared.search.Special.{Special}
 use Rattle.litrs_lex.specs.Special.{is_special}
 
 -- lanes that are 255 if a test holds and 0 otherwise, and the mask of them
-abbrev mark : Bool → ℕ
+abbrev pub mark : Bool → ℕ
 mark b = cond b 255 0
 
-mark-or : (a b : Bool) → bit_or (mark a) (mark b) ≡ mark (a || b)
+pub mark-or : (a b : Bool) → bit_or (mark a) (mark b) ≡ mark (a || b)
 mark-or true true = refl
 mark-or true false = refl
 mark-or false true = refl
 mark-or false false = refl
 
-mark-top : (b : Bool) → top 7 (mark b) ≡ b
+pub mark-top : (b : Bool) → top 7 (mark b) ≡ b
 mark-top true = refl
 mark-top false = refl
 
-map-same : {A B : Type 0} → (f g : A → B) → ((x : A) → f x ≡ g x) → (xs : List A) → map f xs ≡ map g xs
+pub map-same : {A B : Type 0} → (f g : A → B) → ((x : A) → f x ≡ g x) → (xs : List A) → map f xs ≡ map g xs
 map-same f g same [] = refl
 map-same f g same (x ∷ xs) = λ i. same x i ∷ map-same f g same xs i
 
-either : {X : Type 0} (p q : X → Bool) (v : List X) {a b : List ℕ} → a ≡ map (λ x. mark (p x)) v → b ≡ map (λ x. mark (q x)) v → zip2 bit_or a b ≡ map (λ x. mark (p x || q x)) v
+pub either : {X : Type 0} (p q : X → Bool) (v : List X) {a b : List ℕ} → a ≡ map (λ x. mark (p x)) v → b ≡ map (λ x. mark (q x)) v → zip2 bit_or a b ≡ map (λ x. mark (p x || q x)) v
 either p q v l r = zip2_of_maps bit_or (λ x. mark (p x)) (λ x. mark (q x)) v l r ∙ map-same _ (λ x. mark (p x || q x)) (λ x. mark-or (p x) (q x)) v
 
-marked : {X : Type 0} (p : X → Bool) (v : List X) {z : List ℕ} → length v ≤ 64 → z ≡ map (λ x. mark (p x)) v → mask_l (map (top 7) z) % 2 ^ 64 ≡ mask_l (map p v)
+pub marked : {X : Type 0} (p : X → Bool) (v : List X) {z : List ℕ} → length v ≤ 64 → z ≡ map (λ x. mark (p x)) v → mask_l (map (top 7) z) % 2 ^ 64 ≡ mask_l (map p v)
 marked p v short lanes =
     ap (λ l. mask_l (map (top 7) l) % 2 ^ 64) lanes ∙ ap (λ l. mask_l l % 2 ^ 64) (map-map (top 7) (λ x. mark (p x)) v ∙ map-same _ p (λ x. mark-top (p x)) v)
     ∙ mask_l-mod (map p v) 64 (omega (arith, length-map v p))
@@ -55,13 +55,13 @@ hits_special what (x ∷ xs) fits =
     λ i. agree_below_at (is_hit (cond what.backslash 92 13) (cond what.nul 0 13) (cond what.non_ascii 127 255)) (is_special what) 256 x
     (found what.backslash what.nul what.non_ascii) fits.0.fits i ∷ hits_special what xs fits.1 i
 
-abbrev equal : ℕ → ℕ → ℕ
+abbrev pub equal : ℕ → ℕ → ℕ
 equal a b = mark (eqb a b)
 
-abbrev below : ℕ → ℕ → ℕ
+abbrev pub below : ℕ → ℕ → ℕ
 below a b = mark (ltb a b)
 
-abbrev joined : List ℕ → List ℕ → List ℕ
+abbrev pub joined : List ℕ → List ℕ → List ℕ
 joined = zip2 bit_or
 
 -- the mask of a load is that of the bytes of the set

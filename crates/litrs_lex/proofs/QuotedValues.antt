@@ -6,7 +6,6 @@ use Rattle.std.specs.Str.{chars, IsUtf8, IsCharBoundary}
 use Rattle.std.proofs.Math.Utf8.{scalars}
 use Rattle.std.proofs.lemmas.Bool.{true≢false, and_parts, and_from, ne_eqb, eq-eqb}
 use Rattle.std.proofs.lemmas.List.{length-take-le, length-drop, append_cancel_left}
-use Rattle.std.proofs.lemmas.List.Folds.{list_all-append}
 use Rattle.std.proofs.lemmas.Str.{scalars-chars}
 use Rattle.litrs_base.specs.declared.err.ParseError.{ParseError}
 use Rattle.litrs_base.specs.Characters.{is_scalar}
@@ -16,7 +15,7 @@ use Rattle.litrs_base.specs.declared.quotes.Switches.{Switches}
 use Rattle.litrs_grammar.specs.Quoted.{Item, plain_item, escape_item, continuation, item_text, item_value, is_item, is_complete_before, takes_all_blanks, is_plain, is_body, body_text, body_value, is_item_list, QuotedParts, IsQuoted, item_refusal}
 use Rattle.litrs_grammar.proofs.QuotedItems.{stands_body, body_stands, same_item, quote_no_item}
 use Rattle.litrs_grammar.proofs.Laws.Quoted.{quoted_texts_are_unique, quoted_texts_are_not_refused}
-use Rattle.litrs_grammar.proofs.Laws.Value.{values_without_byte_escapes_are_utf8}
+use Rattle.litrs_grammar.proofs.Laws.Value.{values_without_byte_escapes_are_utf8, part_is_text}
 use Rattle.litrs_lex.specs.QuotedCut.{IsQuotedRefused, IsQuotedValue, IsOutOfMemory, IsQuotedOutOfMemory}
 use Rattle.litrs_lex.specs.QuotedItems.{IsPlainRun}
 use Rattle.litrs_lex.specs.Reading.{IsReadTo, IsReadBody, IsBodyRefused, IsRestRefused, IsReadAsValue, IsLongerThan, HasValueWithin}
@@ -190,12 +189,6 @@ body_alone w rest (a ∷ items) h =
 scalars_are_text : (t : List ℕ) → scalars t ≡ true → list_all is_scalar t ≡ true
 scalars_are_text [] h = refl
 scalars_are_text (c ∷ t) h = let p = and_parts _ (scalars t) h in and_from _ _ p.0 (scalars_are_text t p.1)
-
--- a part of a text is a text
-part_is_text : (a b c t : List ℕ) → a ++ (b ++ c) ≡ t → list_all is_scalar t ≡ true → list_all is_scalar b ≡ true
-part_is_text a b c t cut h =
-    let p = and_parts (list_all is_scalar a) (list_all is_scalar (b ++ c)) (sym (list_all-append is_scalar a (b ++ c)) ∙ ap (list_all is_scalar) cut ∙ h) in
-    (and_parts (list_all is_scalar b) (list_all is_scalar c) (sym (list_all-append is_scalar b c) ∙ p.1)).0
 
 off_by : (bytes takes : Bool) → (not bytes || takes) ≡ true → takes ≡ false → bytes ≡ false
 off_by false takes h g = refl

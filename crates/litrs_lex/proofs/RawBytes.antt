@@ -32,7 +32,6 @@ use Rattle.litrs_grammar.proofs.Spans.Raw.{raw_refusal_within}
 use Rattle.litrs_lex.specs.RawCut.{raw_parts_at, IsRawCut, IsRawRefused, raw_special, IsPastBody, IsStop, IsRawOpening, IsBodyCut}
 use Rattle.litrs_lex.proofs.PlainRuns.{AlikeFrom128, IsCharRun, char_run, not_ascii, same_tests}
 use Rattle.litrs_lex.proofs.FloatBytes.{chars_after, utf8_after, rest_is}
-use Rattle.litrs_lex.proofs.SuffixBytes.{is_suffix-nil}
 
 -- One character: the search stops at those that no body contains, and at `"`.
 
@@ -291,14 +290,6 @@ pub suffix_refused : (u a : Bool) (n start place : ℕ) (bytes : List ℕ) → I
     raw_body_refusal u a n start (chars (drop start bytes)) ≡ Some (at_byte (place + 1 + n) (suffix_kind (chars (drop (place + 1 + n) bytes))))
 suffix_refused u a n start place bytes utf8 s c none = let x = chars (drop (place + 1 + n) bytes) in
     closed_refusal u a n start place bytes utf8 s c ∙ ap (λ v. if not v then Some (at_byte (place + 1 + n) (suffix_kind x)) else None) none
-
--- a text that is not a suffix is not empty
-pub suffix_within : (bytes : List ℕ) (place : ℕ) → place ≤ length bytes → is_suffix (chars (drop place bytes)) ≡ false → place + 1 ≤ length bytes
-suffix_within bytes place within none = go (drop place bytes) refl none
-  where
-    go : (rest : List ℕ) → drop place bytes ≡ rest → is_suffix (chars rest) ≡ false → place + 1 ≤ length bytes
-    go [] is none = absurd (true≢false (sym (ap is_suffix chars-nil ∙ is_suffix-nil) ∙ none))
-    go (b ∷ r) is none = omega (arith, ap length is, length-drop place bytes)
 
 front_bytes : (u a : Bool) (n start place : ℕ) (bytes : List ℕ) → IsUtf8 (drop start bytes) → (s : IsStop u a n start bytes place) → s.passed.front ≡ chars (slice_range bytes start place)
 front_bytes u a n start place bytes utf8 s =

@@ -77,7 +77,3 @@ longer_by_item v item first room kept more = omega (arith, length-append v item)
 pub room_of : (no_zero : Bool) (len capacity : ℕ) → capacity ≡ (if no_zero then len else (len + 1)) → len ≤ capacity
 room_of true len capacity is = omega arith
 room_of false len capacity is = omega arith
-
--- the same number of bytes, by an equal list
-pub lacked : {P : Type 0} (room : ℕ) (v a b : List ℕ) → a ≡ b → P × (room < length v + length a) → P × (room < length v + length b)
-lacked room v a b is held = (held.0, subst (λ l. room < length v + length l) is held.1)

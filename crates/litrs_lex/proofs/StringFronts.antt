@@ -15,12 +15,12 @@ use Rattle.litrs_base.specs.Quotes.{quoted_front, raw_front}
 abbrev is_low : List ℕ → Bool
 is_low t = list_all (λ c. nat_lt c 128) t
 
-quoted_low : (kind : StringKind) → is_low (quoted_front kind) ≡ true
+pub quoted_low : (kind : StringKind) → is_low (quoted_front kind) ≡ true
 quoted_low string_kind = refl
 quoted_low byte_string_kind = refl
 quoted_low c_string_kind = refl
 
-raw_low : (kind : StringKind) → is_low (raw_front kind) ≡ true
+pub raw_low : (kind : StringKind) → is_low (raw_front kind) ≡ true
 raw_low string_kind = refl
 raw_low byte_string_kind = refl
 raw_low c_string_kind = refl

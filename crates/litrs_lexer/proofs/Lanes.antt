@@ -1,23 +1,13 @@
 -- The comparison of the lanes finds the bytes that are not of a class.
-use Rattle.std.proofs.Common.{◌≡◌, ℕ, ◌%◌, ◌^◌, ◌≤◌, ltb, eqb, Bool, true, false, not, ◌||◌, ◌&&◌, cond, List, [], ◌∷◌, map, length, replicate, Fits, w8, refl, ap, ◌∙◌, arith}
+use Rattle.std.proofs.Common.{◌≡◌, ℕ, ◌%◌, ◌^◌, ◌≤◌, ltb, eqb, Bool, true, false, not, ◌||◌, ◌&&◌, List, [], ◌∷◌, map, length, replicate, Fits, w8, refl, ap, ◌∙◌, arith}
 use Rattle.std.proofs.lemmas.Bool.{agree_below, agree_below_at}
-use Rattle.std.proofs.lemmas.Simd.{zip2_splat, zip2_splat_left, zip2_of_maps, map-map, mask_l-mod}
-use Rattle.std.proofs.lemmas.List.{length-map}
+use Rattle.std.proofs.lemmas.Simd.{zip2_splat, zip2_splat_left, zip2_of_maps}
 use lib.Bits.{bit_or, bit_and}
 use lib.Lanes.{zip2, mask_l, top, Each1}
 use Rattle.litrs_lexer.specs.declared.ascii.Class.{Class}
 use Rattle.litrs_lexer.specs.declared.ascii.Class.TheVariants.{Word, Space}
 use Rattle.litrs_lexer.specs.Cut.{is_of_class}
-
--- lanes that are 255 if a test holds and 0 otherwise
-abbrev mark : Bool → ℕ
-mark b = cond b 255 0
-
-mark-or : (a b : Bool) → bit_or (mark a) (mark b) ≡ mark (a || b)
-mark-or true true = refl
-mark-or true false = refl
-mark-or false true = refl
-mark-or false false = refl
+use Rattle.litrs_lex.proofs.Needles.{mark, map-same, either, marked, below}
 
 mark-and : (a b : Bool) → bit_and (mark a) (mark b) ≡ mark (a && b)
 mark-and true true = refl
@@ -25,31 +15,12 @@ mark-and true false = refl
 mark-and false true = refl
 mark-and false false = refl
 
-mark-top : (b : Bool) → top 7 (mark b) ≡ b
-mark-top true = refl
-mark-top false = refl
-
-map-same : {A B : Type 0} → (f g : A → B) → ((x : A) → f x ≡ g x) → (xs : List A) → map f xs ≡ map g xs
-map-same f g same [] = refl
-map-same f g same (x ∷ xs) = λ i. same x i ∷ map-same f g same xs i
-
-either : (p q : ℕ → Bool) (v : List ℕ) {a b : List ℕ} → a ≡ map (λ x. mark (p x)) v → b ≡ map (λ x. mark (q x)) v → zip2 bit_or a b ≡ map (λ x. mark (p x || q x)) v
-either p q v l r = zip2_of_maps bit_or (λ x. mark (p x)) (λ x. mark (q x)) v l r ∙ map-same _ (λ x. mark (p x || q x)) (λ x. mark-or (p x) (q x)) v
-
 both : (p q : ℕ → Bool) (v : List ℕ) {a b : List ℕ} → a ≡ map (λ x. mark (p x)) v → b ≡ map (λ x. mark (q x)) v → zip2 bit_and a b ≡ map (λ x. mark (p x && q x)) v
 both p q v l r = zip2_of_maps bit_and (λ x. mark (p x)) (λ x. mark (q x)) v l r ∙ map-same _ (λ x. mark (p x && q x)) (λ x. mark-and (p x) (q x)) v
-
-marked : (p : ℕ → Bool) (v : List ℕ) {z : List ℕ} → length v ≤ 64 → z ≡ map (λ x. mark (p x)) v → mask_l (map (top 7) z) % 2 ^ 64 ≡ mask_l (map p v)
-marked p v short lanes =
-    ap (λ l. mask_l (map (top 7) l) % 2 ^ 64) lanes ∙ ap (λ l. mask_l l % 2 ^ 64) (map-map (top 7) (λ x. mark (p x)) v ∙ map-same _ p (λ x. mark-top (p x)) v)
-    ∙ mask_l-mod (map p v) 64 (omega (arith, length-map v p))
 
 -- the comparisons of lanes
 abbrev differ : ℕ → ℕ → ℕ
 differ a b = mark (not (eqb a b))
-
-abbrev below : ℕ → ℕ → ℕ
-below a b = mark (ltb a b)
 
 abbrev is_outside : (low high : ℕ) → ℕ → Bool
 is_outside low high x = ltb x low || ltb high x

@@ -44,16 +44,8 @@ changes_one kind t rest m at text never = (
       never (subst (λ (j : TokenKind). IsToken j (t ++ m) (rest ++ m)) same.0 (subst (λ (l : List ℕ). IsToken k (t ++ m) (l ++ m)) same.1 longer)),
 )
 
-empty_is : (l : List ℕ) → is_empty l ≡ true → l ≡ []
-empty_is [] h = refl
-empty_is (c ∷ l) h = absurd (false≢true h)
-
 some_rest : (rest u : List ℕ) → rest ≡ u → is_empty rest ≡ false → is_empty u ≡ false
 some_rest rest u same some = ap is_empty (sym same) ∙ some
-
-name_some : (t : List ℕ) → is_empty (after_name t) ≡ false → is_empty t ≡ false
-name_some [] h = absurd (true≢false h)
-name_some (c ∷ t) h = refl
 
 -- white space, and lines
 

@@ -1,6 +1,6 @@
 -- Decisions if a piece of a text is a literal, and if the rest may follow it.
 use Rattle.litrs_prefix.proofs.Words.{◌≡◌, inl, inr, ℕ, ◌<◌, Bool, true, false, List, ◌++◌, take, drop, Option, Some, None, refl, sym, ap, subst, ◌∙◌, arith, ◌&&◌, if◌then◌else◌, false≢true, begins_with-split, dispatch_literal, literals_are_unique}
-use Rattle.litrs_prefix.specs.Words.{codes, chars, IsUtf8, IsCharBoundary, quoted_front, raw_front, begins_with, char_kind, byte_kind, IsCharLiteral, IsFloatOf, IsIntegerOf, Derivation, an_integer, a_char, a_byte, IsLiteral, begins_with_float, IsQuotedLiteral, RawParts, IsRawLiteral, IsFront, IsOnlyRest, IsLiteralLen, IsMalformedLen, IsJudged, IsJudgedBy, IsPiece, opens, may_follow, ends_suffix, ends_integer, HasPrefix, HasNoPrefix, InvalidLiteral, HasNoDerivation, without_span, StringKind, string_kind, byte_string_kind, c_string_kind, CharParts, a_string, a_byte_string, a_c_string, IsString, StringParts, quoted_parts, raw_parts, string_suffix, char_literal, byte_literal, c_string_literal, string_literal_of, literal_kind, Dispatch, refused_as, parsed_as, dispatch, QuotedParts, EndsBefore}
+use Rattle.litrs_prefix.specs.Words.{codes, chars, IsUtf8, IsCharBoundary, quoted_front, raw_front, begins_with, char_kind, byte_kind, IsCharLiteral, IsFloatOf, IsIntegerOf, Derivation, an_integer, a_char, a_byte, IsLiteral, begins_with_float, IsQuotedLiteral, RawParts, IsRawLiteral, IsFront, IsOnlyRest, IsLiteralLen, IsMalformedLen, IsJudged, IsJudgedBy, IsPiece, opens, may_follow, ends_suffix, ends_integer, HasPrefix, HasNoPrefix, InvalidLiteral, HasNoDerivation, without_span, StringKind, string_kind, byte_string_kind, c_string_kind, CharParts, IsString, StringParts, quoted_parts, raw_parts, string_suffix, char_literal, byte_literal, c_string_literal, string_literal_of, literal_kind, Dispatch, refused_as, parsed_as, dispatch, QuotedParts, EndsBefore}
 use Rattle.litrs_lex.specs.declared.kind.Front.{Front}
 use Rattle.litrs_lex.specs.declared.kind.Front.TheVariants as front
 use Rattle.litrs_lex.specs.Front.{row_of}
@@ -8,28 +8,23 @@ use Rattle.litrs_lex.proofs.Dispatch.{dispatch-chars}
 use Rattle.litrs_lex.proofs.StringFronts.{quoted_begins, raw_begins}
 use Rattle.litrs_prefix.proofs.Pieces.{parts_spell, piece_is}
 use Rattle.litrs_prefix.proofs.Unique.{number_kind}
+use Rattle.litrs_grammar.specs.Closing.{a_string_of}
 
 -- the strings of a kind: a quoted one is not raw
 
--- a string of the kind, as a literal
-abbrev pub string_at : StringKind → StringParts → Derivation
-string_at string_kind x = a_string x
-string_at byte_string_kind x = a_byte_string x
-string_at c_string_kind x = a_c_string x
-
-pub to_string : (kind : StringKind) (t : List ℕ) (x : StringParts) → IsString kind t x → IsLiteral t (string_at kind x)
+pub to_string : (kind : StringKind) (t : List ℕ) (x : StringParts) → IsString kind t x → IsLiteral t (a_string_of kind x)
 to_string kind t x h = grind arith
 
-from_string : (kind : StringKind) (t : List ℕ) (x : StringParts) → IsLiteral t (string_at kind x) → IsString kind t x
+from_string : (kind : StringKind) (t : List ℕ) (x : StringParts) → IsLiteral t (a_string_of kind x) → IsString kind t x
 from_string kind t x h = grind arith
 
-pub string_follows : (kind : StringKind) (x : StringParts) (r : List ℕ) → may_follow (string_at kind x) r ≡ ends_suffix (string_suffix x) r
+pub string_follows : (kind : StringKind) (x : StringParts) (r : List ℕ) → may_follow (a_string_of kind x) r ≡ ends_suffix (string_suffix x) r
 string_follows kind x r = grind arith
 
 string_of : (kind : StringKind) (t : List ℕ) (d : Derivation) → IsLiteral t d → dispatch t ≡ parsed_as (string_literal_of kind) → (x : StringParts) × IsString kind t x
 string_of kind t d h row = (let x = at kind d (sym (dispatch_literal t d h) ∙ row) in (x.0, from_string kind t x.0 (subst (λ (e : Derivation). IsLiteral t e) x.1 h)))
   where
-    at : (kind : StringKind) (d : Derivation) → parsed_as (literal_kind d) ≡ parsed_as (string_literal_of kind) → (x : StringParts) × (d ≡ string_at kind x)
+    at : (kind : StringKind) (d : Derivation) → parsed_as (literal_kind d) ≡ parsed_as (string_literal_of kind) → (x : StringParts) × (d ≡ a_string_of kind x)
     at string_kind d h = grind arith
     at byte_string_kind d h = grind arith
     at c_string_kind d h = grind arith
@@ -84,12 +79,12 @@ byte_before bs u is none = λ d h. let x = byte_of d (kind_at front.Byte bs (par
 
 pub quoted_before : (kind : StringKind) (bs r : List ℕ) (o : Option Bool) → IsUtf8 bs → IsFront (front.Quoted kind) bs →
     IsJudgedBy (IsQuotedLiteral kind (chars bs)) (λ d. ends_suffix d.suffix r) o → IsJudged o (chars bs) r
-quoted_before kind bs r (Some b) u is h = (string_at kind (quoted_parts h.0), to_string kind (chars bs) (quoted_parts h.0) h.1, string_follows kind (quoted_parts h.0) r ∙ h.2)
+quoted_before kind bs r (Some b) u is h = (a_string_of kind (quoted_parts h.0), to_string kind (chars bs) (quoted_parts h.0) h.1, string_follows kind (quoted_parts h.0) r ∙ h.2)
 quoted_before kind bs r None u is none = λ d h. let q = quoted_of kind (chars bs) d (quoted_begins kind bs u ∙ is.begins) h in none q.0 q.1
 
 pub raw_before : (kind : StringKind) (bs r : List ℕ) (o : Option Bool) → IsUtf8 bs → IsFront (front.Raw kind) bs →
     IsJudgedBy (IsRawLiteral kind (chars bs)) (λ d. ends_suffix d.suffix r) o → IsJudged o (chars bs) r
-raw_before kind bs r (Some b) u is h = (string_at kind (raw_parts h.0), to_string kind (chars bs) (raw_parts h.0) h.1, string_follows kind (raw_parts h.0) r ∙ h.2)
+raw_before kind bs r (Some b) u is h = (a_string_of kind (raw_parts h.0), to_string kind (chars bs) (raw_parts h.0) h.1, string_follows kind (raw_parts h.0) r ∙ h.2)
 raw_before kind bs r None u is none = λ d h. let q = raw_of kind (chars bs) d (raw_begins kind bs u ∙ is.begins) h in none q.0 q.1
 
 pub integer_before : (t r : List ℕ) (b : Bool) → IsJudgedBy (IsIntegerOf t) (λ d. ends_suffix d.suffix r && ends_integer d r) (Some b) → IsJudged (Some b) t r

@@ -6,7 +6,7 @@ use Rattle.litrs_grammar.proofs.LongerTexts.Suffix.{front_of}
 abbrev pub Holds : (List ℕ → Type 0) → List ℕ → Type 0
 Holds P more = (x : List ℕ) (c : ℕ) (y : List ℕ) → x ++ c ∷ y ≡ more → P x
 
-no_end : (x : List ℕ) (c : ℕ) (y : List ℕ) → x ++ c ∷ y ≡ [] → ⊥
+pub no_end : (x : List ℕ) (c : ℕ) (y : List ℕ) → x ++ c ∷ y ≡ [] → ⊥
 no_end [] c y h = cc
 no_end (a ∷ x) c y h = cc
 

@@ -1,6 +1,6 @@
 -- Literals that are read once: those without a suffix, before a rest that neither begins nor
 -- continues a name.
-use Rattle.litrs_prefix.proofs.Words.{◌≡◌, ℕ, true, false, not, ◌&&◌, ◌||◌, List, [], ◌∷◌, ◌++◌, drop, Some, refl, sym, ap, subst, ◌∙◌, append-nil, arith, ◌+◌, ◌-◌, ◌≤◌, length, ◌==◌, Bool, if◌then◌else◌, and_from, and_parts, eqb-true, false≢true, ne_eqb, not-true, nat_tests, drop_at, take-append-drop, chars-nil, IsUtf8-drop, is_xid_continue-ascii, is_xid_start-is_xid_continue, begins_with-append, chars_ascii, first_passes-chars, if_true, list_all-take_while, first_passes-rest, length-hashes, hash_len-append, is_suffix-nil}
+use Rattle.litrs_prefix.proofs.Words.{◌≡◌, ℕ, true, false, not, ◌&&◌, ◌||◌, List, [], ◌∷◌, ◌++◌, drop, Some, refl, sym, ap, subst, ◌∙◌, append-nil, arith, ◌+◌, ◌-◌, ◌≤◌, length, ◌==◌, Bool, if◌then◌else◌, and_from, and_parts, eqb-true, false≢true, ne_eqb, not-true, nat_tests, drop_at, take-append-drop, chars-nil, IsUtf8-drop, is_xid_continue-ascii, begins_with-append, chars_ascii, first_passes-chars, if_true, list_all-take_while, first_passes-rest, length-hashes, hash_len-append, is_suffix-nil}
 use Rattle.litrs_prefix.specs.Words.{⊤, is_ascii, is_ascii_digit, is_ascii_alphanumeric, list_all, list_any, take_while, prefix_len, chars, IsUtf8, IsCharBoundary, is_xid_continue, char_kind, byte_kind, Switches, char_front, quoted_front, switches_of, raw_front, first_passes, begins_with, starts_identifier, IntegerParts, IsIntegerOf, IsFloatOf, is_period, is_decimal_char, char_item_text, IsCharLiteral, is_char_item, IsQuotedLiteral, Derivation, an_integer, a_float, a_char, a_byte, IsLiteral, IsItemsEnd, after_digits, after_fraction, HasPrefix, may_follow, ends_suffix, is_bare, keeps_period, gives_period, is_quote, RawParts, IsRawLiteral, raw_closing, after_closing, hashes, hash_len, has_unicode, allows_nul, Decimal, CharKind, StringKind, integer_text, has_prefix, FloatParts, float_text, is_float_form, CharItem, char_text, Item, QuotedParts, body_text, is_item_list, quoted_text, StringParts, IsString, quoted_parts, string_suffix, raw_parts, raw_text, IsLiteralLen, ltb}
 use Rattle.std.proofs.Math.Seq.{drop-append-add}
 use Rattle.litrs_grammar.specs.Laws.Raw.{NoClosingIn}
@@ -11,11 +11,13 @@ use Rattle.litrs_lex.specs.RawCut.{IsRawOpening, IsStop}
 use Rattle.litrs_lex.proofs.FloatBytes.{chars_after}
 use Rattle.litrs_lex.proofs.RawBytes.{Closing, closing_at, stop_of}
 use Rattle.litrs_prefix.proofs.Chars.{longer_char, longer, longer_raw}
-use Rattle.litrs_prefix.proofs.Judged.{string_at, to_string, string_follows}
+use Rattle.litrs_prefix.proofs.Judged.{to_string, string_follows}
 use Rattle.litrs_prefix.proofs.PieceBodies.{hashes_low, closing_here}
 use Rattle.litrs_prefix.proofs.PieceEnds.{ends_at, digits_are}
 use Rattle.litrs_prefix.proofs.Numbers.{longer_integer, longer_float}
 use Rattle.litrs_prefix.proofs.Runs.{front_cut}
+use Rattle.litrs_grammar.specs.Closing.{a_string_of}
+use Rattle.litrs_grammar.proofs.SuffixStart.{starts_continue}
 
 -- a literal at the front of a text, before this rest
 abbrev pub HasLiteral : List ℕ → List ℕ → Type 0
@@ -37,16 +39,7 @@ after_front word bs body n low u begins is back = sym (front_cut word bs n low u
 pub char_low : (kind : CharKind) → list_all (λ c. ltb c 128) (char_front kind) ≡ true
 char_low kind = grind arith
 
-pub quoted_low : (kind : StringKind) → list_all (λ c. ltb c 128) (quoted_front kind) ≡ true
-quoted_low kind = grind arith
-
-pub raw_low : (kind : StringKind) → list_all (λ c. ltb c 128) (raw_front kind) ≡ true
-raw_low kind = grind arith
-
 -- the rest
-
-starts_continue : (c : ℕ) → starts_identifier c ≡ true → is_xid_continue c ≡ true
-starts_continue c h = grind (arith, nat_tests, is_xid_start-is_xid_continue, is_xid_continue-ascii)
 
 -- a character that does not continue a name does not begin one
 pub no_start : (t : List ℕ) → first_passes is_xid_continue t ≡ false → first_passes starts_identifier t ≡ false
@@ -151,7 +144,7 @@ char_at byte_kind t a r is item stops = let lit = char_literal byte_kind a item 
 -- a string
 
 found_string : (kind : StringKind) (x : StringParts) (s r t : List ℕ) → IsString kind s x → s ++ r ≡ t → ends_suffix (string_suffix x) r ≡ true → HasLiteral t r
-found_string kind x s r t literal spells ends = found (string_at kind x) s r t (to_string kind s x literal) spells (string_follows kind x r ∙ ends)
+found_string kind x s r t literal spells ends = found (a_string_of kind x) s r t (to_string kind s x literal) spells (string_follows kind x r ∙ ends)
 
 pub quoted_at : (kind : StringKind) (t body r : List ℕ) (place : ℕ) → t ≡ quoted_front kind ++ chars body → IsItemsEnd (switches_of kind) body 0 (λ _. ⊤) place →
     chars (drop place body) ≡ 34 ∷ r → first_passes is_xid_continue r ≡ false → HasLiteral t r

@@ -71,7 +71,7 @@ pub struct MalformedPrefix {
     /// The error of [`Literal::parse`] for the malformed prefix.
     pub error: ParseError,
     /// The length of the malformed prefix, in bytes. A reader can continue after it. It is 0 only
-    /// for [`parse_until`], if no text precedes the delimiter.
+    /// for [`parse_until`], if nothing but white space precedes the delimiter or the end.
     pub len: usize,
 }
 

@@ -20,14 +20,14 @@ use Rattle.litrs_base.specs.declared.quotes.StringKind.TheVariants.{String as st
 use Rattle.litrs_grammar.specs.Refused.{IsRefused}
 use Rattle.litrs_grammar.specs.Strings.{StringDerivation}
 use Rattle.litrs_grammar.proofs.Laws.Integer.{not_empty_by_first}
-use Rattle.litrs_grammar.proofs.Laws.Literal.{dispatch_literal, is_bool-digit}
+use Rattle.litrs_grammar.proofs.Laws.Literal.{dispatch_literal, is_bool-digit, dispatch_quoted, dispatch_raw}
 use Rattle.litrs_lex.proofs.IntegerBytes.{digit-chars}
 use Rattle.litrs_lex.specs.declared.kind.Front.{Front}
 use Rattle.litrs_lex.specs.declared.kind.Front.TheVariants as front
 use Rattle.litrs_lex.specs.Front.{IsFront}
 use Rattle.litrs_lex.specs.NumberCut.{number_kind}
 use Rattle.litrs_lex.proofs.Dispatch.{dispatch-chars}
-use Rattle.litrs_lex.proofs.Fronts.{char_row, byte_row, quoted_row, raw_row}
+use Rattle.litrs_lex.proofs.Fronts.{char_row, byte_row}
 use Rattle.litrs_token.specs.LiteralToken.{IsNoLiteralToken}
 use Rattle.litrs_token.proofs.StringTests.{quoted_split, raw_split}
 
@@ -111,14 +111,14 @@ pub no_quoted : (kind : StringKind) (bs : List ℕ) → IsUtf8 bs →
     IsNoLiteralToken (chars bs)
 no_quoted kind bs u front none =
     no_string kind (chars bs)
-    (ap dispatch (sym (quoted_split kind bs u front)) ∙ quoted_row kind _) none
+    (ap dispatch (sym (quoted_split kind bs u front)) ∙ dispatch_quoted kind _) none
 
 pub no_raw : (kind : StringKind) (bs : List ℕ) → IsUtf8 bs →
     begins_with (raw_front kind) bs ≡ true → HasNoDerivation (IsString kind (chars bs)) →
     IsNoLiteralToken (chars bs)
 no_raw kind bs u front none =
     no_string kind (chars bs)
-    (ap dispatch (sym (raw_split kind bs u front)) ∙ raw_row kind _) none
+    (ap dispatch (sym (raw_split kind bs u front)) ∙ dispatch_raw kind _) none
 
 -- Other texts
 

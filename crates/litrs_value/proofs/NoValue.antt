@@ -1,5 +1,5 @@
 -- A text that has an error other than `Memory` does not have a value of the type.
-use Rattle.std.proofs.Common.{◌≡◌, ◌≢◌, ℕ, Bool, List, refl, sym, ◌∙◌, subst}
+use Rattle.std.proofs.Common.{◌≢◌, ℕ, Bool, List, refl, sym, ◌∙◌, subst}
 use Rattle.std.proofs.lemmas.Bool.{false≢true}
 use Rattle.std.specs.Str.{chars}
 use Rattle.litrs_grammar.proofs.Laws.Literal.{literals_are_unique}

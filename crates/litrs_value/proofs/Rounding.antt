@@ -1,11 +1,10 @@
 -- From the leading bits of an integer to the float nearest to it.
-use Rattle.std.proofs.Common.{◌≡◌, ℕ, zero, suc, ◌+◌, ◌-◌, ◌*◌, ◌/◌, ◌%◌, ◌^◌, ◌<◌, ◌≤◌, min, true, false, inl, inr, sym, ap, subst, ◌∙◌, arith}
-use native.Mathlib.Nat.{eq-zero-or-pos, add_comm, mul-one, mul_assoc, mul-pos, mod-lt, mul-le-mul, mul-le-mul_right, mul-lt-mul_of_pos_right, le-div_iff_mul-le, div-add-mod', pow-suc}
+use Rattle.std.proofs.Common.{◌≡◌, ℕ, zero, suc, ◌+◌, ◌-◌, ◌*◌, ◌/◌, ◌%◌, ◌^◌, ◌<◌, ◌≤◌, true, false, inl, inr, sym, ap, subst, ◌∙◌, arith}
+use native.Mathlib.Nat.{eq-zero-or-pos, add_comm, mul-one, mul_assoc, mul-pos, mod-lt, mul-le-mul_right, mul-lt-mul_of_pos_right, le-div_iff_mul-le, div-add-mod', pow-suc}
 use Rattle.std.proofs.lemmas.Bool.{cases_Bool, cases_lt}
-use lib.Dec.{lit≤}
 use lib.Count.{count_leading_zeros, leading_top}
 use lib.Pow.{pow-add, pow_mono, pow_pos, shr_lt}
-use lib.Ieee.{Format, binary32, binary64, prec, low, hid, ones, round, of_bits}
+use lib.Ieee.{Format, prec, low, hid, round, of_bits}
 use Rattle.fast_float.specs.Rounding.{scaled_bits}
 use Rattle.fast_float.proofs.Patterns.{shape}
 use Rattle.fast_float.proofs.RoundingLemmas.{nearest_below, nearest_tie, nearest_above}
@@ -178,24 +177,6 @@ rounded_at f x n len d u q e is least most places some power exponent down tie b
 -- the number of digits that are dropped of a number of this length
 pub dropped_is : (f : Format) (len digits : ℕ) → digits ≡ prec f → 61 ≤ len → (len - digits + prec f ≡ len) × (0 < len - digits) × (digits ≤ len)
 dropped_is f len digits is long = let s = shape f in (omega (arith, is, s.digits.1, long), omega (arith, is, s.digits.1, long), omega (arith, is, s.digits.1, long))
-
-hid_small : (f : Format) → hid f ≤ 2 ^ 52
-hid_small binary32 = lit≤ tt
-hid_small binary64 = lit≤ tt
-
--- from 2047 on the bits are those of infinity
-pub capped : (f : Format) (m k : ℕ) → min (min k 2047 * hid f + m) (ones f * hid f) ≡ scaled_bits f m k
-capped f m k = elim (cases_lt k 2047) [
-  | inl less ↦ (let e : min k 2047 ≡ k = omega (arith, less) in ap (λ j. min (j * hid f + m) (ones f * hid f)) e)
-  | inr more ↦ (
-      let e : min k 2047 ≡ 2047 = omega (arith, more) in
-      let s = shape f in
-      ap (λ j. min (j * hid f + m) (ones f * hid f)) e ∙ omega (arith, mul-le-mul_right (hid f) more, mul-le-mul_right (hid f) s.field.1))
-]
-
--- the bits fit a word
-pub bits_fit : (f : Format) (m k : ℕ) → k ≤ 2047 → m ≤ 2 ^ 53 → k * hid f + m < 2 ^ 64
-bits_fit f m k few small = omega (arith, mul-le-mul few (hid_small f), small)
 
 -- the leading bits of a large integer are many
 pub leading_long : (x : Leading) (n : ℕ) → IsLeading x n → 2 ^ 64 ≤ n → 2 ^ 60 ≤ x.number

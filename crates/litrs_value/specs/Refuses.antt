@@ -33,8 +33,8 @@ abbrev pub IsLargeWithUnderscore : IntegerParts → Type 0
 IsLargeWithUnderscore d = IsTrue (list_any is_underscore d.main) × (d.base ≡ Decimal)
     × (2 ^ 64 ≤ integer_value d)
 
--- Reading the literal allocates: its value of the type, or the text of a number without its
--- underscores.
+-- Reading the literal copies its value of the type, even an empty one, or the text of a number
+-- without its underscores.
 abbrev pub IsAllocated : ValueType → Derivation → Type 0
 IsAllocated string_type d = ⊤
 IsAllocated bytes_type d = ⊤
@@ -44,7 +44,7 @@ IsAllocated (float_type t) (an_integer d) = IsLargeWithUnderscore d
 IsAllocated type d = ⊥
 
 -- The first of these that fails: the kind, the sign, the suffix, the range; or memory, if the kind,
--- the sign and the suffix fit, and reading allocates.
+-- the sign and the suffix fit, and reading copies.
 abbrev pub Refuses : ValueType → (negative : Bool) → Derivation → ValueError → Type 0
 Refuses type negative d (Kind expected found) = (expected ≡ type) × (found ≡ kind_of_literal d)
     × IsFalse (accepts type (kind_of_literal d))

@@ -1,12 +1,12 @@
 //! The numbers of integers.
-ghost use Rattle.std.specs.Prelude.{◌≡◌, ◌↔◌, ◌≤◌, ◌<◌, ◌^◌, Some, IsTrue, IfOk, IfErr};
+ghost use Rattle.std.specs.Prelude.{◌≡◌, ◌↔◌, Some, IsTrue, IfOk, IfErr};
 ghost use Rattle.std.specs.Option.{SomeIff};
 ghost use Rattle.litrs.specs.Integer.{integer_value};
 ghost use Rattle.litrs.specs.IntegerLiteral.{integer_parts};
 ghost use Rattle.litrs.specs.LiteralDerivation.{derivation};
 ghost use Rattle.litrs.specs.Numeral.{greatest_of, IsNumberOf};
 ghost use Rattle.litrs_value.specs.Kinds.{Fits};
-ghost use Rattle.litrs_value.specs.Refuses.{IsInRange, Refuses};
+ghost use Rattle.litrs_value.specs.Refuses.{Refuses};
 ghost use Rattle.litrs_value.specs.Values.{signed, number_of, least_magnitude};
 
 use crate::error::ValueError;

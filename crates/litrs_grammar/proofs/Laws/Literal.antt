@@ -94,13 +94,13 @@ dispatch_byte : (t : List ℕ) (d : CharParts) → IsCharLiteral byte_kind t d �
 unfolding dispatch
 dispatch_byte t d r = ap dispatch (sym r.spells)
 
-dispatch_quoted : (kind : StringKind) (x : List ℕ) → dispatch (quoted_front kind ++ x) ≡ parsed_as (string_literal_of kind)
+pub dispatch_quoted : (kind : StringKind) (x : List ℕ) → dispatch (quoted_front kind ++ x) ≡ parsed_as (string_literal_of kind)
 unfolding dispatch
 dispatch_quoted string_kind x = refl
 dispatch_quoted byte_string_kind x = refl
 dispatch_quoted c_string_kind x = refl
 
-dispatch_raw : (kind : StringKind) (x : List ℕ) → dispatch (raw_front kind ++ x) ≡ parsed_as (string_literal_of kind)
+pub dispatch_raw : (kind : StringKind) (x : List ℕ) → dispatch (raw_front kind ++ x) ≡ parsed_as (string_literal_of kind)
 unfolding dispatch
 dispatch_raw string_kind x = refl
 dispatch_raw byte_string_kind x = refl

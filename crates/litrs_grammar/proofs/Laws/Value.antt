@@ -79,7 +79,7 @@ utf8_text (c ∷ t) h =
     IsUtf8-append _ (encode_utf8_all t) (IsUtf8-encode c p.0) (utf8_text t p.1)
 
 -- a part of a text is a text
-part_is_text : (a b c t : List ℕ) → a ++ (b ++ c) ≡ t → list_all is_scalar t ≡ true → list_all is_scalar b ≡ true
+pub part_is_text : (a b c t : List ℕ) → a ++ (b ++ c) ≡ t → list_all is_scalar t ≡ true → list_all is_scalar b ≡ true
 part_is_text a b c t cut h =
     let p = and_parts (list_all is_scalar a) (list_all is_scalar (b ++ c)) (sym (list_all-append is_scalar a (b ++ c)) ∙ ap (list_all is_scalar) cut ∙ h) in
     (and_parts (list_all is_scalar b) (list_all is_scalar c) (sym (list_all-append is_scalar b c) ∙ p.1)).0

@@ -1,9 +1,9 @@
 -- Refused chars and bytes under every appended text: which stay refused, and which some text completes.
-use Rattle.std.proofs.Common.{◌≡◌, ℕ, Bool, true, false, not, ◌&&◌, ◌||◌, ◌⊎◌, inl, inr, List, [], ◌∷◌, ◌++◌, length, take, drop, Option, Some, None, refl, sym, ap, subst, ◌∙◌}
+use Rattle.std.proofs.Common.{◌≡◌, ℕ, Bool, true, false, not, ◌&&◌, ◌||◌, ◌⊎◌, inl, inr, List, [], ◌∷◌, ◌++◌, length, drop, Option, Some, None, refl, sym, ap, subst, ◌∙◌}
 use Rattle.std.specs.Prelude.{◌==◌, ◌↔◌, if◌then◌else◌, option_map, is_some}
 use Rattle.std.specs.List.{list_all}
-use Rattle.std.proofs.lemmas.Bool.{and_parts, and_from, and_left, and_right, not-true, or_parts, true≢false}
-use Rattle.std.proofs.lemmas.List.{append_assoc, append-nil, append_cancel_left, drop_at, take_at}
+use Rattle.std.proofs.lemmas.Bool.{and_parts, and_from, and_right, not-true, or_parts, true≢false}
+use Rattle.std.proofs.lemmas.List.{append_assoc, append-nil, append_cancel_left, drop_at}
 use Rattle.std.proofs.lemmas.List.Folds.{list_all-append as all-append}
 use Rattle.litrs_base.specs.Characters.{is_scalar}
 use Rattle.litrs_base.specs.Derivations.{HasNoDerivation}
@@ -11,7 +11,7 @@ use Rattle.litrs_base.specs.Finality.{is_final, is_open}
 use Rattle.litrs_base.specs.Refusal.{Refusal, shifted}
 use Rattle.litrs_base.specs.Text.{IsText, byte_len, begins_with}
 use Rattle.litrs_base.proofs.Begins.{begins_with-split, begins_with-append}
-use Rattle.litrs_base.proofs.ListTests.{if_true, if_false}
+use Rattle.litrs_base.proofs.ListTests.{if_true}
 use Rattle.litrs_base.proofs.Runs.{list_all-append}
 use Rattle.litrs_grammar.specs.Suffix.{is_suffix, starts_identifier}
 use Rattle.litrs_base.specs.declared.quotes.Switches.{Switches}
@@ -25,7 +25,7 @@ use Rattle.litrs_grammar.specs.GoesOn.CharByte.{CharRestGoesOn, CharGoesOn}
 use Rattle.litrs_grammar.proofs.LongerTexts.Suffix.{front_of, suffix_freed, is_suffix-nil, underscore_x}
 use Rattle.litrs_grammar.proofs.LongerTexts.OpenRows.{is_open_row, shut_if, shut_suffix, shut_escape}
 use Rattle.litrs_grammar.proofs.LineFeeds.{is_other, escape_other, suffix_other, no_line_feed}
-use Rattle.litrs_grammar.proofs.Laws.CharByte.{chars_are_decided, item_closing, none_row, backslash_allowed}
+use Rattle.litrs_grammar.proofs.Laws.CharByte.{chars_are_decided, item_closing}
 use Rattle.litrs_grammar.proofs.Laws.Escape.{refusal_escape, read_escape, HasEscape, same_escape}
 use Rattle.litrs_grammar.proofs.LongerTexts.Escape.{escape_final}
 use Rattle.litrs_grammar.proofs.QuotedItems.{escape_head}

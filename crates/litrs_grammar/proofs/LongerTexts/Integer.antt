@@ -82,7 +82,7 @@ rows_of d h =
     integer_rows-None (byte_len (prefix d.base)) (byte_len (prefix d.base ++ d.main)) (byte_len (integer_text d))
     (is_suffix d.suffix) (first_passes is_ascii_digit d.suffix) (suffix_kind d.suffix) (first_passes is_e d.suffix) (list_any (is_digit d.base) d.main) h
 
-under_stays : (base : IntegerBase) → is_digit_or_underscore base 95 ≡ true
+pub under_stays : (base : IntegerBase) → is_digit_or_underscore base 95 ≡ true
 under_stays Binary = refl
 under_stays Octal = refl
 under_stays Decimal = refl

@@ -136,7 +136,7 @@ start_begins kind t e is = (λ begins. front_goes_on kind t (starts_front kind t
       | inr raw ↦ raw_completes kind t raw
     ]
 
-quoted_other : (kind : StringKind) → list_all is_other (quoted_front kind) ≡ true
+pub quoted_other : (kind : StringKind) → list_all is_other (quoted_front kind) ≡ true
 quoted_other string_kind = refl
 quoted_other byte_string_kind = refl
 quoted_other c_string_kind = refl

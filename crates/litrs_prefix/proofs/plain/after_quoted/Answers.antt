@@ -1,8 +1,9 @@
 -- The front, the items of a body, and a quote.
 use Rattle.litrs_prefix.proofs.Words.{ℕ, ◌∷◌, sym, ap, ◌∙◌, chars, quoted_front}
-use Rattle.litrs_prefix.proofs.PlainLiterals.{after_front, quoted_low, quoted_at}
+use Rattle.litrs_prefix.proofs.PlainLiterals.{after_front, quoted_at}
 use Rattle.litrs_prefix.proofs.Runs.{front_cut}
 use Rattle.litrs_prefix.proofs.plain.after_quoted.Goals as goal
+use Rattle.litrs_lex.proofs.StringFronts.{quoted_low}
 
 pub range_from-body-requires : goal.range_from-body-requires
 range_from-body-requires c = λ _. (front_cut _ c.args.text.now c.front_len.result (quoted_low c.args.kind) c.utf8.text c.requires c.front_len.ensures.quoted).0

@@ -1,8 +1,9 @@
 -- The front, hashes and a quote, a body, and a closing.
 use Rattle.litrs_prefix.proofs.Words.{sym, ◌∙◌, raw_front, IsCharBoundary-start, IsCharBoundary-from_drop}
-use Rattle.litrs_prefix.proofs.PlainLiterals.{after_front, raw_low, raw_at, body_starts, stop_in, closing_in}
+use Rattle.litrs_prefix.proofs.PlainLiterals.{after_front, raw_at, body_starts, stop_in, closing_in}
 use Rattle.litrs_prefix.proofs.Runs.{front_cut}
 use Rattle.litrs_prefix.proofs.plain.after_raw.Goals as goal
+use Rattle.litrs_lex.proofs.StringFronts.{raw_low}
 
 pub range_from-body-requires : goal.range_from-body-requires
 range_from-body-requires c = λ _. (front_cut _ c.args.text.now c.front_len.result (raw_low c.args.kind) c.utf8.text c.requires c.front_len.ensures.raw).0
