@@ -183,12 +183,12 @@ def wanted_of_literal(text, kind, suffix, parts):
     else:
         fields += [NO_STRING, 0, ""]
     allocates = kind == "cstring" or (parts[0] == b"escaped" and parts[1] != b"")
-    python = python_of_literal(text, kind, suffix, parts)
+    python = python_of_literal(kind, suffix, parts)
     front, number = (LITERAL, len(text)), float_numbers.wanted_of(kind, parts)
     return Wanted(text, fields + [LITERAL, 0, ""], int(allocates), front, python, number)
 
 
-def python_of_literal(text, kind, suffix, parts):
+def python_of_literal(kind, suffix, parts):
     """Returns the fields of the module's object for a row."""
     base, raw, main, fraction, exponent, value = 0, False, "", None, "", None
     if kind == "bool":

@@ -193,8 +193,10 @@ class Tests:
         self.hold((said, status) == (b"", 0), f"floats: {said} {status}")
         shown = self.run(given=lines.encode())[0].decode()
         shown = re.findall(r": float\n  value (.*)\n  integer part ", shown)
+        objects = out.decode().splitlines()
         self.hold(len(shown) == len(FLOATS), f"{len(shown)} floats with a value")
-        for (text, value), line, it in zip(FLOATS, shown, out.decode().splitlines()):
+        self.hold(len(objects) == len(FLOATS), f"{len(objects)} objects of floats")
+        for (text, value), line, it in zip(FLOATS, shown, objects):
             name = "f32" if text.endswith("f32") else "f64"
             infinite = f"infinity, out of range for {name}"
             self.hold(line == (infinite if value is None else value), f"{text}: {line}")
@@ -213,7 +215,9 @@ class Tests:
 
     def try_strings(self):
         lines = "".join(f"{text}\n" for text, _ in STRINGS)
-        for (text, value), it in zip(STRINGS, self.objects(given=lines, status=0)):
+        objects = self.objects(given=lines, status=0)
+        self.hold(len(objects) == len(STRINGS), f"{len(objects)} objects of strings")
+        for (text, value), it in zip(STRINGS, objects):
             self.hold(it["parts"] == {"value": value}, f"{text}: {it}")
         (it,) = self.objects(given='b"a\\xff"\n', status=0)
         self.hold(it["parts"] == {"hex": ast.literal_eval(it["text"]).hex()}, f"{it}")

@@ -14,8 +14,9 @@ TABLE = TOP / "bench/figures.txt"
 LINE = re.compile(r"(\S+) +(\d+)")
 # The numbers of parses of two runs, whose difference is counted.
 FEW, MANY = 10, 110
-# A parse takes at most this multiple of the number in the table.
-MOST = 1.1
+# A parse takes at most `MOST` times the number in the table. If it takes at most `LEAST` times the
+# number, it was probably not counted.
+MOST, LEAST = 1.1, 0.5
 
 
 def table():
@@ -37,12 +38,13 @@ def counted(steps, program, text):
 
 
 def faults_of(folder, program):
-    """Yields the texts for which `program`, which is parses.c, takes too many instructions."""
+    """Yields the texts for which `program`, which is parses.c, takes too many or too few
+    instructions."""
     steps = pathlib.Path(folder) / "steps"
     subprocess.run(["cc", "-O1", "-o", steps, TOP / ".ci/steps.c"], check=True)
     numbers = {text: counted(steps, program, text) for text in table()}
     told = ", ".join(f"{text} {number:.0f}" for text, number in numbers.items())
     print(f"c library: instructions of a parse: {told}")
     for text, most in table().items():
-        if numbers[text] > MOST * most:
+        if not LEAST * most < numbers[text] <= MOST * most:
             yield f"{text}: {numbers[text]:.0f} instructions, where the table has {most}"

@@ -110,15 +110,14 @@ class Caller:
 
 
 def callers_of(page):
-    """Yields the callers of a page. Each is a block that begins with a line of tactics, below its
-    line of crates.txt. The blocks of its proofs and definitions follow, each below the path of its
-    file."""
+    """Returns the callers of a page. Each is a block of Rust, below its line of crates.txt. The
+    blocks of its proofs and definitions follow, each below the path of its file."""
     callers = []
     for block in BLOCK.finditer(page):
         spans = re.findall(r"`([^`\n]+)`", BLOCK.sub("", page[: block.start()]))
-        if block[1] == "rust" and block[2].startswith(TACTICS):
+        if block[1] == "rust":
             line = next(it for it in reversed(spans) if re.fullmatch(r"\w+: [\w ]+", it))
-            callers.append(Caller(line, {"src/lib.rt": block[2]}))
+            callers.append(Caller(line, {"src/lib.rt": block[2].removeprefix(TACTICS)}))
         elif block[1] == "antt":
             path = next(it for it in reversed(spans) if it.endswith(".antt"))
             callers[-1].files[path] = block[2]
@@ -139,15 +138,16 @@ def add_callers(folder, callers):
     """Adds a crate to a repository, with a module for each caller. Returns its folder."""
     crate = folder / "crates/callers"
     root, deps = TACTICS, set()
-    for caller in callers:
-        name = caller.line.split(":")[0]
-        root += f"pub mod {name};\n"
-        deps |= set(caller.line.split(":")[1].split())
+    for number, caller in enumerate(callers):
+        name, named = caller.line.split(":")
+        module = f"{name}_{number}"
+        root += f"pub mod {module};\n"
+        deps |= set(named.split())
         for path, text in caller.files.items():
-            inside = pathlib.Path(path.replace("proofs/", f"proofs/{name}/"))
+            inside = pathlib.Path(path.replace("proofs/", f"proofs/{module}/"))
             if path == "src/lib.rt":
-                inside, text = pathlib.Path(f"src/{name}.rt"), text.removeprefix(TACTICS)
-            text = text.replace(f"Rattle.{name}.proofs.", f"Rattle.callers.proofs.{name}.")
+                inside = pathlib.Path(f"src/{module}.rt")
+            text = text.replace(f"Rattle.{name}.proofs.", f"Rattle.callers.proofs.{module}.")
             (crate / inside).parent.mkdir(parents=True, exist_ok=True)
             (crate / inside).write_text(text)
     (crate / "src/lib.rt").write_text(root)
