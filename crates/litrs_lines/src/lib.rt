@@ -247,7 +247,7 @@ pub fn run<I: Input, O: Output>(
     ensures read_failed { I.has_failed reader.new ≡ true → IsErrOf result RunError.Read }
     ensures write { IsErrOf result RunError.Write ↔ (O.has_failed writer.new ≡ true) }
 
-    // Over an input that is known to be empty there is no memory error.
+    // If the input is known to be empty, the error is not `Memory`.
     ensures memory { I.remaining reader.old ≡ Some [] → IsErrOf result RunError.Memory → ⊥ }
 
     // If no write has failed, the flush has, after all reports.

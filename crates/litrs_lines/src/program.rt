@@ -38,7 +38,7 @@ pub fn run_program<I: Input, O: Output, M: Write>(
     ensures err { exit_status result ≡ 1 → StopsWithin (I.remaining reader.old)
         (I.remaining reader.new) (O.contents writer.old) (O.contents writer.new) }
 
-    // The status is 0 over an input that is known to be empty, if no device fails.
+    // If the input is known to be empty and no device failed, the status is 0.
     ensures succeeds { I.remaining reader.old ≡ Some [] → I.has_failed reader.new ≡ false
         → O.has_failed writer.new ≡ false → exit_status result ≡ 0 }
 

@@ -1,7 +1,7 @@
 //! Cuts the Rust source on the standard input into tokens. Writes a line on each token that is not
 //! white space: its kind, its place in bytes and its text. For a malformed literal it writes what
-//! is wrong with it. A source that is not UTF-8 is an error. Arguments are ignored. If the reader of
-//! the output has closed it, the program ends silently.
+//! is wrong with it. A source that is not UTF-8 is an error. Arguments are ignored. If the reader
+//! of the output has closed it, the program ends silently.
 #![tactic(auto)]
 
 use litrs_lexer::{TokenKind, Tokens, strip_shebang};
