@@ -43,9 +43,9 @@ said_of_literal t Says is = is.2
 said_of_refused : (t : List ℕ) (Says : ParseError → Type 0) (is : IsRefusedAnd t Says) → IsRefused literal_parse t is.0 × Says is.0
 said_of_refused t Says is = (is.1, is.2)
 
--- the literal at the front of a longer text, and what follows its bytes, of which there are some
+-- the literal at the front of a longer text, what follows its bytes, and that a character ends with them
 prefix : (bytes : List ℕ) (len : ℕ) (Says : Derivation → Type 0) (is : IsPrefixAnd bytes len Says) →
-    HasPrefix (chars bytes) is.0 (chars (drop len bytes)) × (len ≤ length bytes) × Says is.0
+    HasPrefix (chars bytes) is.0 (chars (drop len bytes)) × IsCharBoundary bytes len × Says is.0
 prefix bytes len Says is = (is.1, is.2, is.3)
 
 -- the malformed one, its length, and its error

@@ -7,13 +7,14 @@ use Rattle.litrs_grammar.specs.Refused.{MayLackMemory}
 use Rattle.litrs_value.specs.Refuses.{IsLargeWithUnderscore}
 use Rattle.litrs_c.specs.Answers.{IsLiteralAnd}
 
--- The digits of the number are copied without their underscores: those of a float, or of an integer
--- in base ten that is at least 2^64.
+-- The number has underscores, and its digits are copied without them: those of a float, or of an
+-- integer in base ten that is at least 2^64.
 abbrev pub IsCopied : Derivation → Type 0
 IsCopied (a_float d) = IsTrue (list_any is_underscore (number_part d))
 IsCopied (an_integer d) = IsLargeWithUnderscore d
 IsCopied _ = ⊥
 
--- The allocation of that copy failed, or that of the value of a literal that is not a number.
+-- The text is a number whose digits are copied, or another literal whose value is allocated and
+-- takes memory.
 abbrev pub LacksNumberMemory : List ℕ → Type 0
 LacksNumberMemory t = MayLackMemory t ⊎ IsLiteralAnd t IsCopied

@@ -50,8 +50,8 @@ pub extern "C" fn litrs_write_string(
     }
 }
 
-/// Writes the byte string with the value `value`, for example `b"a\xff"`. Otherwise, it is like
-/// [`litrs_write_string`].
+/// Writes the byte string with the value `value`, for example `b"a\xff"`. `value` need not be
+/// UTF-8. Otherwise, it is like [`litrs_write_string`].
 #[unsafe(no_mangle)]
 pub extern "C" fn litrs_write_bytes(
     alloc: Global,
