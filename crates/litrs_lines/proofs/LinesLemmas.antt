@@ -15,7 +15,7 @@ use Rattle.std.proofs.lemmas.Bool.{ltb-false, false≢true}
 use Rattle.std.proofs.Common.{Option, Result, Ok, Err, OnOk, OnErr, IfSome, length-append}
 use Rattle.std.specs.Prelude.{is_ok, ◌==◌, slice_index, if◌then◌else◌}
 use Rattle.litrs_lines.specs.LinesLaws.{spelled, LinesSpellTheBytes, NoLineFeedInLines, LinesAreUnique, OneCrEndsALine, LinesWithoutCr}
-use Rattle.litrs_lines.specs.Stopped.{AppendsBeginning, whole_lines, StopsWithin}
+use Rattle.litrs_lines.specs.Stopped.{AppendsBeginning, AppendsBeginningOfReports, whole_lines, StopsWithin}
 use Rattle.std.proofs.Common.{eqb-true, ltb, cond, add-one, get_or, take-append-drop, drop-cons, length-take}
 use Rattle.std.proofs.lemmas.List.{get_or-take, take_rest}
 use Rattle.litrs_lines.specs.Ended.{AreEndedReports, AreLastReports}
@@ -322,6 +322,32 @@ all_whole None taken at_end = refl
 all_whole (Some []) taken at_end = refl
 all_whole (Some (b ∷ bs)) taken at_end = cc
 
+-- the reports on all lines of a longer text begin with those on the groups that ended
+longer_reports : (taken rest held so_far : List ℕ) → AreEndedReports [] (ended_lines taken) held so_far → (last : List ℕ) × AreLastReports [] (lines_of (taken ++ rest)) (so_far ++ last)
+unfolding lines_of
+longer_reports taken rest held so_far ended =
+    let lines = ended_lines (open_line taken ++ rest) in
+    let end = unless_empty (open_line (taken ++ rest)) in
+    let last = have_last_reports held (lines ++ end) in
+    let is : ended_lines taken ++ (lines ++ end) ≡ ended_lines (taken ++ rest) ++ end =
+    sym (append_assoc (ended_lines taken) lines end) ∙ ap (λ (ls : List (List ℕ)). ls ++ end) (sym (ended_lines-append taken rest)) in
+    (last.0, subst (λ (ls : List (List ℕ)). AreLastReports [] ls (so_far ++ last.0)) is (last-append [] (ended_lines taken) (lines ++ end) held so_far last.0 ended last.1))
+
+-- a known input is the bytes that were taken, and others
+of_taken : (left_old left_new : Option (List ℕ)) (taken : List ℕ) (P : List ℕ → Type 0) → Consumes left_old left_new taken → ((rest : List ℕ) → P (taken ++ rest)) → IfSome left_old P
+of_taken None left_new taken P takes all = tt
+of_taken (Some bytes) None taken P takes all = absurd takes
+of_taken (Some bytes) (Some rest) taken P takes all = subst P (sym takes) (all rest)
+
+-- so a prefix of its reports was written
+begins_reports : (left_old left_new contents_old contents_new : Option (List ℕ)) (taken held so_far : List ℕ) → Consumes left_old left_new taken
+    → AreEndedReports [] (ended_lines taken) held so_far → ((more : List ℕ) → AppendsBeginning contents_old contents_new (so_far ++ more))
+    → IfSome left_old (AppendsBeginningOfReports contents_old contents_new)
+begins_reports left_old left_new contents_old contents_new taken held so_far takes ended begins =
+    of_taken left_old left_new taken (AppendsBeginningOfReports contents_old contents_new) takes (λ rest.
+    let all = longer_reports taken rest held so_far ended in
+    (so_far ++ all.0, group_reports (lines_of (taken ++ rest)) (so_far ++ all.0) all.1, begins all.0))
+
 -- ---- a run
 
 -- of the bytes taken so far all groups that ended were reported on, and each read took one at least
@@ -396,6 +422,9 @@ module _ {left_old left contents_old contents : Option (List ℕ)} {line held : 
         begins = ap (take (length (so_far ++ part.written))) cut ∙ take-append_seam (so_far ++ part.written) (rest ++ more);
       }
 
+  begins_so_far : (more : List ℕ) → AppendsBeginning contents_old contents (run.so_far ++ more)
+  begins_so_far more = record { written = run.so_far; appends = run.writes; begins = take-append_seam run.so_far more }
+
   -- a read failed
   pub stops_at_read : (left_new : Option (List ℕ)) → Keeps left left_new → StopsWithin left_old left_new contents_old contents
   stops_at_read left_new kept =
@@ -405,20 +434,25 @@ module _ {left_old left contents_old contents : Option (List ℕ)} {line held : 
         takes = Consumes-kept left_old left left_new run.taken run.takes kept;
         out = run.so_far ++ all.0;
         reports = group_reports (whole_lines left_new run.taken) (run.so_far ++ all.0) all.1;
-        writes = record { written = run.so_far; appends = run.writes; begins = take-append_seam run.so_far all.0 };
+        writes = begins_so_far all.0;
+        begins = begins_reports left_old left_new contents_old contents run.taken held run.so_far (Consumes-kept left_old left left_new run.taken run.takes kept) run.reports begins_so_far;
       }
 
   -- a piece was not reported on as a whole
   pub stops_in_piece : (left_new contents_new : Option (List ℕ)) (piece left_held out : List ℕ) → Consumes left left_new piece
       → AreEndedReports held (ended_lines (line ++ piece)) left_held out → AppendsBeginning contents contents_new out → StopsWithin left_old left_new contents_old contents_new
   stops_in_piece left_new contents_new piece left_held out takes is writes =
-      let all = whole_reports left_new (run.taken ++ piece) left_held (run.so_far ++ out) (reports_on_piece piece left_held out is) in
+      let ended = reports_on_piece piece left_held out is in
+      let all = whole_reports left_new (run.taken ++ piece) left_held (run.so_far ++ out) ended in
+      let whole = Consumes-trans left_old left left_new run.taken piece run.takes takes in
       record {
         taken = run.taken ++ piece;
-        takes = Consumes-trans left_old left left_new run.taken piece run.takes takes;
+        takes = whole;
         out = (run.so_far ++ out) ++ all.0;
         reports = group_reports (whole_lines left_new (run.taken ++ piece)) ((run.so_far ++ out) ++ all.0) all.1;
         writes = writes_prefix contents_new out all.0 ((run.so_far ++ out) ++ all.0) writes (append_assoc run.so_far out all.0);
+        begins = begins_reports left_old left_new contents_old contents_new (run.taken ++ piece) left_held (run.so_far ++ out) whole ended (λ more.
+            writes_prefix contents_new out more ((run.so_far ++ out) ++ more) writes (append_assoc run.so_far out more));
       }
 
   consumes_end : (left_new : Option (List ℕ)) (piece : List ℕ) → Consumes left left_new piece → piece ≡ [] → Consumes left_old left_new run.taken
@@ -428,14 +462,18 @@ module _ {left_old left contents_old contents : Option (List ℕ)} {line held : 
   -- the end was not reported on as a whole
   pub stops_at_end : (left_new contents_new : Option (List ℕ)) (piece last out : List ℕ) → last ≡ line → Consumes left left_new piece → piece ≡ [] → IsAtEnd left_new
       → AreLastReports held (unless_empty last) out → AppendsBeginning contents contents_new out → StopsWithin left_old left_new contents_old contents_new
-  stops_at_end left_new contents_new piece last out is takes none at_end all writes = record {
-    taken = run.taken;
-    takes = consumes_end left_new piece takes none;
-    out = run.so_far ++ out;
-    reports = subst (λ (lines : List (List ℕ)). AreGroupReports lines (run.so_far ++ out)) (all_whole left_new run.taken at_end)
-        (group_reports (lines_of run.taken) (run.so_far ++ out) (reports_on_all last out is all));
-    writes = writes_prefix contents_new out [] (run.so_far ++ out) writes (ap (λ xs. run.so_far ++ xs) (sym (append-nil out)));
-  }
+  stops_at_end left_new contents_new piece last out is takes none at_end all writes =
+      let whole = consumes_end left_new piece takes none in
+      let reports = group_reports (lines_of run.taken) (run.so_far ++ out) (reports_on_all last out is all) in
+      let begins = writes_prefix contents_new out [] (run.so_far ++ out) writes (ap (λ xs. run.so_far ++ xs) (sym (append-nil out))) in
+      record {
+        taken = run.taken;
+        takes = whole;
+        out = run.so_far ++ out;
+        reports = subst (λ (lines : List (List ℕ)). AreGroupReports lines (run.so_far ++ out)) (all_whole left_new run.taken at_end) reports;
+        writes = begins;
+        begins = Consumes-whole left_old left_new run.taken (AppendsBeginningOfReports contents_old contents_new) whole at_end (run.so_far ++ out, reports, begins);
+      }
 
   -- the end was reported on
   pub ends_run : (left_new contents_new : Option (List ℕ)) (piece last out : List ℕ) → last ≡ line → Consumes left left_new piece → piece ≡ [] → IsAtEnd left_new

@@ -1,6 +1,6 @@
 -- Texts that end with LF, the steps of texts, and texts that are held.
 use Rattle.std.proofs.Common.{◌≡◌, ◌∙◌, ◌⊎◌, inl, inr, ℕ, Bool, true, false, List, [], ◌∷◌, ◌++◌, refl, sym, ap, subst, append-nil, arith, length, take, ◌-◌, ◌+◌, ◌<◌, length-append, slice_index, Result, Ok, Err, OnOk, OnErr}
-use Rattle.std.specs.Prelude.{IfOk, ◌==◌}
+use Rattle.std.specs.Prelude.{IfOk, IsOk, IsErr, IsTrue, IsFalse, ◌==◌}
 use Rattle.std.specs.Str.{chars, IsUtf8, IsCharBoundary}
 use Rattle.std.specs.String.Boundary.{IsSplitPoint}
 use Rattle.std.proofs.Math.Seq.{take-append_seam, get_or-append_seam}
@@ -13,7 +13,8 @@ use Rattle.litrs_base.specs.declared.err.ParseErrorKind.TheVariants.{Unterminate
 use Rattle.litrs_base.proofs.Chars.{ascii_by_test}
 use Rattle.litrs_base.specs.Finality.{is_open}
 use Rattle.litrs_base.specs.Refusal.{Refusal, refusal_of, kind_of}
-use Rattle.litrs_grammar.specs.Literal.{IsLiteral, literal_parse, Begins}
+use Rattle.litrs_grammar.specs.Allocation.{allocates}
+use Rattle.litrs_grammar.specs.Literal.{Derivation, a_bool, an_integer, a_float, a_char, a_byte, a_string, a_byte_string, a_c_string, IsLiteral, literal_parse, Begins}
 use Rattle.litrs_grammar.specs.LiteralRefusals.{IsRefusal}
 use Rattle.litrs_grammar.proofs.Laws.Literal.{literals_are_not_refused, texts_are_decided}
 use Rattle.litrs_grammar.proofs.Spans.Literal.{no_literal_ends_with_line_feed}
@@ -26,11 +27,12 @@ use Rattle.litrs_grammar.specs.Quoted.{without_last}
 use Rattle.litrs_grammar.proofs.QuotedItems.{without_last-append}
 use Rattle.litrs_grammar.proofs.LongerTexts.Literal.{line_ends_are_decided}
 use Rattle.litrs.specs.declared.Literal.{Literal as AnyLiteral}
-use Rattle.litrs.specs.LiteralDerivation.{literal_raw, derivation}
+use Rattle.litrs.specs.declared.Literal.TheVariants.{Bool as bool_lit, Integer as integer_lit, Float as float_lit, Char as char_lit, String as string_lit, Byte as byte_lit, ByteString as byte_string_lit, CString as c_string_lit}
+use Rattle.litrs.specs.LiteralDerivation.{literal_raw, derivation, is_bool_literal}
 use Rattle.litrs_lines.specs.declared.collector.Step.{Step}
 use Rattle.litrs_lines.specs.declared.collector.Step.TheVariants.{More, Literal, Refused}
 use Rattle.litrs_lines.specs.Held.{IsHeld}
-use Rattle.litrs_lines.specs.Steps.{BeginsByLine, IsUnfinished, IsReadAs, IsLiteralStep, IsStep, held_after, Feeds, Pushes}
+use Rattle.litrs_lines.specs.Steps.{BeginsByLine, IsUnfinished, IsReadAs, IsLiteralStep, IsStep, is_a_bool, held_after, Feeds, Pushes}
 use Rattle.litrs_lines.specs.StepLaws.{StepsAreDecided, StepsAreUnique}
 
 line_feed_char : chars (10 ∷ []) ≡ 10 ∷ []
@@ -201,3 +203,28 @@ lines_are_utf8 held is u some =
     let end = length (without_last held) in
     let front : take end held ≡ without_last held = ap (take end) (sym lines.0) ∙ take-append_seam (without_last held) (10 ∷ []) in
     subst IsUtf8 front (IsUtf8-take held end u (IsCharBoundary-at_seam held (without_last held) (10 ∷ []) (sym lines.0) line_feed_is_utf8))
+
+-- ---- the literals that are copied
+
+-- no bool is one whose copy fails
+pub copied_no_bool : {B T E : Type 0} (lit : AnyLiteral B) (result : Result T E) → (IsTrue (is_bool_literal lit) → IsOk result) → IsErr result → IsFalse (is_a_bool (derivation lit))
+copied_no_bool (bool_lit b) (Ok r) succeeds failed = absurd (false≢true failed)
+copied_no_bool (bool_lit b) (Err e) succeeds failed = absurd (false≢true (succeeds refl))
+copied_no_bool (integer_lit l) result succeeds failed = refl
+copied_no_bool (float_lit l) result succeeds failed = refl
+copied_no_bool (char_lit l) result succeeds failed = refl
+copied_no_bool (string_lit l) result succeeds failed = refl
+copied_no_bool (byte_lit l) result succeeds failed = refl
+copied_no_bool (byte_string_lit l) result succeeds failed = refl
+copied_no_bool (c_string_lit l) result succeeds failed = refl
+
+-- nor one whose value is allocated
+pub allocated_no_bool : (d : Derivation) → IsTrue (allocates d) → IsFalse (is_a_bool d)
+allocated_no_bool (a_bool b) allocated = absurd (false≢true allocated)
+allocated_no_bool (an_integer d) allocated = refl
+allocated_no_bool (a_float d) allocated = refl
+allocated_no_bool (a_char d) allocated = refl
+allocated_no_bool (a_byte d) allocated = refl
+allocated_no_bool (a_string d) allocated = refl
+allocated_no_bool (a_byte_string d) allocated = refl
+allocated_no_bool (a_c_string d) allocated = refl

@@ -9,7 +9,7 @@ use Rattle.litrs_prefix.specs.Malformed.{IsMalformed}
 use Rattle.litrs_prefix.specs.Opens.{opens}
 use Rattle.litrs_prefix.specs.Prefix.{HasPrefix}
 use Rattle.litrs_lines.specs.Held.{IsHeld}
-use Rattle.litrs_lines.specs.Steps.{BeginsByLine, IsUnfinished}
+use Rattle.litrs_lines.specs.Steps.{BeginsByLine, IsUnfinished, is_a_bool}
 use Rattle.litrs_lines.specs.declared.collector.PrefixStep.{PrefixStep}
 use Rattle.litrs_lines.specs.declared.collector.PrefixStep.TheVariants.{More, Literal, NoLiteral, Malformed}
 
@@ -22,14 +22,15 @@ IsFront t (Literal lit rest) =
 IsFront t NoLiteral = IsFalse (opens (chars t))
 IsFront t (Malformed e) = IsMalformed (chars t) e
 
--- The text has a literal at its front.
-abbrev pub HasFront : List ℕ → Type 0
-HasFront t = (d : Derivation) × (rest : List ℕ) × HasPrefix (chars t) d rest
+-- The text has a literal other than a bool at its front.
+abbrev pub HasFrontToCopy : List ℕ → Type 0
+HasFrontToCopy t = (d : Derivation) × (rest : List ℕ) × HasPrefix (chars t) d rest
+    × IsFalse (is_a_bool d)
 
--- The text has a literal at its front, or with an LF after it begins one. No other first line is
--- copied.
+-- The text has a literal other than a bool at its front, or with an LF after it begins a literal.
+-- No other first line is copied.
 abbrev pub MayBeCopiedToFront : List ℕ → Type 0
-MayBeCopiedToFront t = HasFront t ⊎ BeginsByLine t
+MayBeCopiedToFront t = HasFrontToCopy t ⊎ BeginsByLine t
 
 -- The step of a text: it is unfinished; or, with an LF after it, it does not begin a literal, and
 -- the step tells its front.

@@ -6,7 +6,8 @@ use Rattle.litrs_lines.specs.declared.group.Reporter.{Reporter}
 use Rattle.litrs_lines.specs.declared.RunError.TheVariants.{Read, Write, Memory}
 use Rattle.litrs_lines.specs.Stopped.{AppendsBeginning}
 
--- A step returns `Write` if and only if a write of the output fails in it. It never returns `Read`.
+-- If the output had not failed before, a step returns `Write` if and only if a write of it fails in
+-- the step. It never returns `Read`.
 abbrev pub NamesFailure : (result : Result (Unit {0}) RunError)
     (failed_old failed_new write_failed : Bool) → Type 0
 NamesFailure (Ok _) failed_old failed_new write_failed = failed_new ≡ failed_old

@@ -1,11 +1,11 @@
 -- The steps of a collector, by the lines that it has, joined by LF.
-use Rattle.std.specs.Prelude.{◌≡◌, ◌⊎◌, ℕ, Bool, List, [], ◌∷◌, ◌++◌, IsTrue, IsFalse}
+use Rattle.std.specs.Prelude.{◌≡◌, ◌⊎◌, ℕ, Bool, true, false, List, [], ◌∷◌, ◌++◌, IsTrue, IsFalse}
 use Rattle.std.specs.Str.{chars, IsUtf8}
 use Rattle.litrs.specs.declared.Literal.{Literal as AnyLiteral}
 use Rattle.litrs.specs.LiteralDerivation.{literal_raw, derivation}
 use Rattle.litrs_base.specs.Characters.{line_feed}
 use Rattle.litrs_base.specs.Derivations.{HasNoDerivation, IsOnlyDerivation}
-use Rattle.litrs_grammar.specs.Literal.{Derivation, IsLiteral, literal_parse, Begins}
+use Rattle.litrs_grammar.specs.Literal.{Derivation, a_bool, IsLiteral, literal_parse, Begins}
 use Rattle.litrs_grammar.specs.Refused.{IsRefused}
 use Rattle.litrs_lines.specs.declared.collector.Step.{Step}
 use Rattle.litrs_lines.specs.declared.collector.Step.TheVariants.{More, Literal, Refused}
@@ -18,9 +18,16 @@ BeginsByLine t = Begins literal_parse (chars t ++ line_feed ∷ [])
 abbrev pub IsUnfinished : List ℕ → Type 0
 IsUnfinished t = HasNoDerivation (IsLiteral (chars t)) × BeginsByLine t
 
--- The text is a literal, or with an LF after it begins one. No other first line is copied.
+-- `true` iff the derivation is that of a bool.
+abbrev pub is_a_bool : Derivation → Bool
+is_a_bool (a_bool b) = true
+is_a_bool d = false
+
+-- The text is a literal other than a bool, or with an LF after it begins a literal. No other first
+-- line is copied.
 abbrev pub MayBeCopied : List ℕ → Type 0
-MayBeCopied t = ((d : Derivation) × IsLiteral (chars t) d) ⊎ BeginsByLine t
+MayBeCopied t =
+    ((d : Derivation) × IsLiteral (chars t) d × IsFalse (is_a_bool d)) ⊎ BeginsByLine t
 
 -- The literal is the only derivation of the text.
 abbrev pub IsReadAs : {B : Type 0} → List ℕ → AnyLiteral B → Type 0

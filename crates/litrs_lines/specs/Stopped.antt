@@ -1,5 +1,5 @@
 -- Runs that stop.
-use Rattle.std.specs.Prelude.{ℕ, List, [], ◌∷◌, Option, None, Some}
+use Rattle.std.specs.Prelude.{ℕ, List, [], ◌∷◌, Option, None, Some, IfSome}
 use Rattle.std.specs.Io.{StartsWith}
 use Rattle.std.specs.Io.KnownBytes.{Appends, Consumes}
 use Rattle.litrs_lines.specs.Lines.{ended_lines, lines_of}
@@ -18,8 +18,13 @@ whole_lines None taken = lines_of taken
 whole_lines (Some []) taken = lines_of taken
 whole_lines (Some (b ∷ bs)) taken = ended_lines taken
 
+-- A prefix of the reports on the groups of all lines of `bytes` was appended to known bytes.
+abbrev pub AppendsBeginningOfReports : (old new : Option (List ℕ)) (bytes : List ℕ) → Type 0
+AppendsBeginningOfReports old new bytes =
+    (out : List ℕ) × AreGroupReports (lines_of bytes) out × AppendsBeginning old new out
+
 -- The bytes that were written are a prefix of the reports on the groups of the whole lines that
--- were taken.
+-- were taken, and of those on the groups of all lines of a known input.
 pub record StopsWithin (left_old left_new contents_old contents_new : Option (List ℕ))
     : Type 0 where
   pub taken : List ℕ
@@ -27,3 +32,4 @@ pub record StopsWithin (left_old left_new contents_old contents_new : Option (Li
   pub out : List ℕ
   pub reports : AreGroupReports (whole_lines left_new taken) out
   pub writes : AppendsBeginning contents_old contents_new out
+  pub begins : IfSome left_old (AppendsBeginningOfReports contents_old contents_new)

@@ -3,15 +3,16 @@
 //! A literal may contain line breaks, for example a string that spans lines. A [`Collector`] is fed
 //! one line after the other. After each it reports whether its lines are a literal, begin one, or
 //! neither.
-ghost use Rattle.std.specs.Prelude.{◌≡◌, ◌≢◌, ◌↔◌, ◌∷◌, ◌++◌, [], None, Some, IsNone, IsTrue, IsErr, IfOk, OnOk, OnErr, IfSome, IfNone, MatchResult, string_bytes};
+ghost use Rattle.std.specs.Prelude.{◌≡◌, ◌≢◌, ◌↔◌, ◌∷◌, ◌++◌, [], None, Some, IsNone, IsTrue, IsOk, IsErr, IfOk, OnOk, OnErr, IfSome, IfNone, MatchResult, string_bytes};
 ghost use Rattle.std.specs.Str.{chars, IsUtf8};
 ghost use Rattle.litrs_base.specs.Characters.{line_feed};
+ghost use Rattle.litrs.specs.LiteralDerivation.{is_bool_literal};
 ghost use Rattle.litrs_grammar.specs.Literal.{literal_parse};
 ghost use Rattle.litrs_grammar.specs.Refused.{IsRefused};
 ghost use Rattle.litrs_prefix.specs.Ends.{IsEndOf};
 ghost use Rattle.litrs_lines.specs.Held.{IsHeld, IsRefusalOfHeld};
 ghost use Rattle.litrs_lines.specs.Open.{IsAfter, IsReadToLastLine};
-ghost use Rattle.litrs_lines.specs.PrefixSteps.{EndsInLine, HasFront, IsAfterLiteral, IsFront, IsHeldBefore, IsPrefixStep, MayBeCopiedToFront, held_after_prefix};
+ghost use Rattle.litrs_lines.specs.PrefixSteps.{EndsInLine, HasFrontToCopy, IsAfterLiteral, IsFront, IsHeldBefore, IsPrefixStep, MayBeCopiedToFront, held_after_prefix};
 ghost use Rattle.litrs_lines.specs.Steps.{BeginsByLine, MayBeCopied, IsLiteralStep, IsReadAs, IsStep, held_after, Feeds, Pushes};
 
 use crate::collector::body::{Open, open_after};
@@ -118,7 +119,7 @@ impl Collector {
     /// # Errors
     ///
     /// Returns `AllocError` if an allocation fails. Then the lines held are unchanged. A first line
-    /// that neither is a literal nor begins one is not copied.
+    /// is copied only if it is a literal other than a bool, or begins a literal.
     pub fn feed(&mut self, line: &str) -> Result<Step, AllocError>
         ensures step { IfOk result (IsStep (self.old ++ line.now)) }
         ensures utf8 { OnOk result (IsUtf8 (self.old ++ line.now)) }
@@ -354,7 +355,8 @@ fn lines_of_held(held: &str) -> &str
 /// Not inlined, so a line that is not a literal does not need room for an owned one.
 #[inline(never)]
 fn literal_step(alloc: Global, lit: Literal<&str>) -> Result<Step, AllocError>
-    ensures { IfOk result (IsLiteralStep lit.entry) }
+    ensures step { IfOk result (IsLiteralStep lit.entry) }
+    ensures bool { IsTrue (is_bool_literal lit.entry) → IsOk result }
 {
     Ok(Step::Literal(lit.into_owned(alloc)?))
 }
@@ -455,7 +457,7 @@ fn front<'a>(alloc: Global, text: &str, line: &'a str) -> Result<PrefixStep<'a>,
     requires { IsHeldBefore line.now text.now }
     ensures step { IfOk result (IsFront text.now) }
     ensures rest { IfOk result (EndsInLine line.now) }
-    ensures copied { IsErr result → HasFront text.now }
+    ensures copied { IsErr result → HasFrontToCopy text.now }
 {
     match parse_prefix(alloc, text) {
         Ok(Some(prefix)) => {

@@ -220,7 +220,7 @@ fn finish<O: Output>(line: &[u8], reporter: &mut Reporter<O>) -> Result<(), RunE
 /// Returns `Read` if the input failed, or was read 2^64 - 1 times, which an input whose bytes are
 /// known never is. Returns `Write` if the output failed, and `Memory` if an allocation failed. The
 /// bytes that were written are then a prefix of the reports on the groups of the whole lines that
-/// were read.
+/// were read, and of those on the groups of all lines.
 ///
 /// A failed call is never made again, so an error of the kind `Interrupted` ends the run as well:
 /// see [`StdInput`] and [`StdOutput`].
@@ -255,7 +255,8 @@ pub fn run<I: Input, O: Output>(
         IfSome (I.remaining reader.old) (λ bytes.
         AppendsReports (lines_of bytes) (O.contents writer.old) (O.contents writer.new)) }
 
-    // The bytes written are a prefix of the reports on the whole lines that were read.
+    // The bytes written are a prefix of the reports on the whole lines that were read, and of those
+    // on all lines, if the input is known.
     ensures err { OnErr result (StopsWithin (I.remaining reader.old) (I.remaining reader.new)
         (O.contents writer.old) (O.contents writer.new)) }
 {

@@ -34,7 +34,7 @@ pub fn run_program<I: Input, O: Output, M: Write>(
     ensures silent { exit_status result ≡ 0
         → Keeps (M.contents messages.old) (M.contents messages.new) }
 
-    // Otherwise the bytes written are a prefix of the reports on the whole lines that were read.
+    // Otherwise the bytes written are a prefix of the reports, as for `run`.
     ensures err { exit_status result ≡ 1 → StopsWithin (I.remaining reader.old)
         (I.remaining reader.new) (O.contents writer.old) (O.contents writer.new) }
 

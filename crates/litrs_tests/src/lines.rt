@@ -1,3 +1,4 @@
-//! `run` and its devices.
+//! `run` and its devices, and a `Collector`.
 mod devices;
 mod inputs;
+mod taken;
