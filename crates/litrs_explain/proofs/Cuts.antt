@@ -1,11 +1,12 @@
 -- A part of a text can be cut where the text can.
-use Rattle.std.proofs.Common.{◌≡◌, ℕ, ◌+◌, ◌-◌, ◌≤◌, List, length, take, drop, sym, subst, length-drop, arith}
+use Rattle.std.proofs.Common.{◌≡◌, ◌∙◌, ℕ, ◌+◌, ◌-◌, ◌≤◌, List, [], length, take, drop, ap, sym, subst, length-drop, arith}
 use Rattle.std.specs.Prelude.{slice_index, slice_range}
-use Rattle.std.specs.Str.{IsUtf8, IsCharBoundary}
+use Rattle.std.specs.Str.{chars, IsUtf8, IsCharBoundary}
 use Rattle.std.specs.declared.ops.Range.{Range}
 use Rattle.std.proofs.lemmas.List.{get_or-take, get_or-drop, length-take-le}
-use Rattle.std.proofs.lemmas.Str.{IsCharBoundary-start, IsCharBoundary-from_rest}
+use Rattle.std.proofs.lemmas.Str.{chars-nil, IsCharBoundary-start, IsCharBoundary-from_rest}
 use Rattle.litrs_base.specs.CharEnd.{IsCutBy}
+use Rattle.litrs_diagnostic.specs.Position.{line_number, column_in}
 use Rattle.litrs_prefix.proofs.Marks.{cut_in}
 use Rattle.litrs_explain.specs.Places.{IsMark}
 use Rattle.litrs_explain.specs.declared.explainer.Mark.{Mark}
@@ -73,3 +74,21 @@ start_mark text at mark utf8 start = record {
   boundary = subst (IsCharBoundary text) (sym start) (IsCharBoundary-start text utf8);
   before = omega (arith, start);
 }
+
+-- nothing is between a place and itself
+no_part : (text : List ℕ) (at : ℕ) → chars (slice_range text at at) ≡ []
+no_part text at =
+    let none : at - at ≡ 0 = omega arith in
+    ap (λ (n : ℕ). chars (take n (drop at text))) none ∙ chars-nil
+
+-- so its line and its column stay
+pub line_stays : (line : ℕ) (text : List ℕ) (at : ℕ) → line ≡ line_number line (chars (slice_range text at at))
+line_stays line text at =
+    let is = ap (line_number line) (no_part text at) in
+    omega (arith, is)
+
+pub column_stays : (column : ℕ) (text : List ℕ) (at : ℕ) → column ≡ column_in column (chars (slice_range text at at))
+unfolding column_in
+column_stays column text at =
+    let is = ap (column_in column) (no_part text at) in
+    omega (arith, is)

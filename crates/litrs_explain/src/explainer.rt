@@ -1,5 +1,5 @@
 //! Explains the literals of a file line by line.
-ghost use Rattle.std.specs.Prelude.{◌≡◌, ◌≤◌, ◌<◌, ◌+◌, ◌-◌, ◌^◌, ◌↔◌, IfOk, IsTrue, slice_range, string_bytes};
+ghost use Rattle.std.specs.Prelude.{◌≡◌, ◌≤◌, ◌<◌, ◌+◌, ◌-◌, ◌^◌, ◌↔◌, ◌++◌, [], ℕ, length, IfOk, OnOk, IsTrue, slice_range, string_bytes};
 ghost use Rattle.std.specs.Str.{chars, IsCharBoundary};
 ghost use Rattle.litrs_base.specs.CharEnd.{IsCutBy};
 ghost use Rattle.litrs_base.specs.Refusal.{marked_span};
@@ -212,7 +212,12 @@ impl<'a> Explainer<'a> {
 
     /// Takes the text that is held. Returns it with the place where the incomplete token begins.
     fn take_held(&mut self) -> Result<(String, usize), AllocError>
-        ensures { IfOk result (λ held. IsCharBoundary (string_bytes held.0) held.1) }
+        ensures text { IfOk result (λ held. string_bytes held.0
+            ≡ string_bytes self.old.before ++ string_bytes self.old.held) }
+        ensures start { IfOk result (λ held. held.1 ≡ length (string_bytes self.old.before)) }
+        ensures taken { OnOk result ((string_bytes self.new.before ≡ [])
+            × (string_bytes self.new.held ≡ [])) }
+        ensures boundary { IfOk result (λ held. IsCharBoundary (string_bytes held.0) held.1) }
     {
         let mut text = mem::replace(&mut self.before, String::new(self.alloc));
         let start = text.len();
@@ -323,7 +328,8 @@ impl<'a> Explainer<'a> {
 
     /// Returns the start of the text.
     fn start(&self) -> Mark
-        ensures { result.at ≡ 0 }
+        ensures at { result.at ≡ 0 }
+        ensures place { result.place ≡ self.now.place }
     {
         Mark {
             at: 0,
@@ -477,6 +483,7 @@ fn around_end(text: &str, at: usize) -> usize
     ensures boundary { IsCharBoundary text.now result }
     ensures after { at ≤ result }
     ensures within { result ≤ at + 1024 }
+    ensures last { (i : ℕ) → result < i → i ≤ at + 1024 → IsCharBoundary text.now i → ⊥ }
 {
     text.floor_char_boundary(at.saturating_add(AROUND))
 }
@@ -538,10 +545,18 @@ impl Mark {
         }
     }
 
-    /// Returns the mark [`AROUND`] bytes before `at`, or this one if it is not before that.
+    /// Returns the mark at the last place at least [`AROUND`] bytes before `at` at which `text` can be
+    /// cut, or this one if that is not after it.
     fn moved_before(self, text: &str, at: usize) -> Mark
         requires { IsMark text.now at self }
-        ensures { IsMark text.now at result }
+        ensures mark { IsMark text.now at result }
+        ensures forward { self.at ≤ result.at }
+        ensures near { self.at < result.at → result.at + 1024 ≤ at }
+        ensures last { (i : ℕ) → result.at < i → i + 1024 ≤ at → IsCharBoundary text.now i → ⊥ }
+        ensures line { self.place.line + (result.at - self.at) < 2 ^ 64 → result.place.line
+            ≡ line_number self.place.line (chars (slice_range text.now self.at result.at)) }
+        ensures column { self.place.column + (result.at - self.at) < 2 ^ 64 → result.place.column
+            ≡ column_in self.place.column (chars (slice_range text.now self.at result.at)) }
     {
         let before = text.floor_char_boundary(at.saturating_sub(AROUND));
         if before > self.at {

@@ -1,5 +1,5 @@
 //! The program: arguments in, reports and a status out.
-ghost use Rattle.std.specs.Prelude.{◌≡◌, IfOk};
+ghost use Rattle.std.specs.Prelude.{◌≡◌, IfOk, IsErrOf, IsTrue};
 ghost use Rattle.litrs_explain.specs.Report.{status_of};
 
 use crate::arguments::{arguments, is_utf8, shown};
@@ -206,10 +206,12 @@ impl<'a> Run<'a> {
     }
 
     /// Writes the reports so far, and returns the status of a run that ended so. If the reader of
-    /// the output has closed it, that is the status of what was read.
+    /// the output has closed it, that is the status of what was read. Returns another error of
+    /// `ended`, or of the write.
     fn finish(&mut self, ended: Result<(), Error>) -> Result<u8, Error>
-        ensures { IfOk result (λ status.
-            status ≡ status_of self.new.explainer.reports.has_errors self.new.has_failed) }
+        ensures status { IfOk result (λ status.
+            status ≡ status_of self.old.explainer.reports.has_errors self.old.has_failed) }
+        ensures memory { IsErrOf ended Error.Memory → IsErrOf result Error.Memory }
     {
         let flushed = self.explainer.reports.output.flush();
         match ended.and(flushed) {
@@ -311,8 +313,11 @@ impl<'a> Run<'a> {
         self.explainer.feed(&line)
     }
 
-    /// Tells the user why a source was not read to its end, after what was read before it.
-    fn fail(&mut self, source: Source<'a>, error: &Error) -> Result<(), Error> {
+    /// Notes that a source was not read to its end, and tells the user why, after what was read
+    /// before it.
+    fn fail(&mut self, source: Source<'a>, error: &Error) -> Result<(), Error>
+        ensures { IsTrue self.new.has_failed }
+    {
         self.has_failed = true;
         self.explainer.reports.output.flush()?;
         let argument = source.argument();

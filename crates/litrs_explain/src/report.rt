@@ -1,5 +1,5 @@
 //! Reports on literals and errors, as text or as JSON.
-ghost use Rattle.std.specs.Prelude.{◌≡◌, ◌≢◌, ◌≤◌, ◌<◌, ◌↔◌, [], ◌++◌, slice_range, Some, IfOk, OnOk, IsTrue, string_bytes};
+ghost use Rattle.std.specs.Prelude.{◌≡◌, ◌≢◌, ◌≤◌, ◌<◌, ◌↔◌, ◌+◌, ◌^◌, [], ◌++◌, slice_range, Some, IfOk, OnOk, IsTrue, string_bytes};
 ghost use Rattle.litrs_base.specs.CharEnd.{IsCutBy};
 ghost use Rattle.litrs_base.specs.declared.err.ParseErrorKind.TheVariants.{InvalidLiteral};
 ghost use Rattle.litrs.specs.LiteralDerivation.{derivation};
@@ -108,6 +108,7 @@ impl<'a> Reports<'a> {
     pub(crate) fn start_file(&mut self, name: &'a str) -> Result<(), AllocError>
         ensures name { OnOk result (self.new.name.now ≡ name.now) }
         ensures counts { OnOk result ((self.new.literals ≡ 0) × (self.new.errors ≡ 0)) }
+        ensures kept { self.new.has_errors ≡ self.old.has_errors }
     {
         self.shown_name = arguments::shown(self.alloc, name)?;
         self.name = name;
@@ -152,7 +153,8 @@ impl<'a> Reports<'a> {
 
     /// Adds the report on an error.
     pub(crate) fn add_problem(&mut self, problem: &Problem) -> Result<(), Error>
-        ensures { IsTrue self.new.has_errors }
+        ensures has_errors { IsTrue self.new.has_errors }
+        ensures errors { self.old.errors + 1 < 2 ^ 64 → self.new.errors ≡ self.old.errors + 1 }
     {
         self.has_errors = true;
         self.errors = self.errors.saturating_add(1);

@@ -13,4 +13,4 @@ refuse-requires-clause-piece c = record {
 }
 
 pub refuse-requires-clause-mark : goal.refuse-requires-clause-mark
-refuse-requires-clause-mark c = start_mark c.args.text.now 0 c.start.result c.utf8.text c.start.ensures
+refuse-requires-clause-mark c = start_mark c.args.text.now 0 c.start.result c.utf8.text c.start.ensures.at

@@ -11,7 +11,7 @@ loop-token-init c =
       refl,
       after_bytes text rest c.args.start c.range_from.ensures.value,
       record {
-        literal = start_mark text (length text - length rest) c.start.result c.utf8.text c.start.ensures;
-        error = start_mark text (length text - length rest) c.start-2.result c.utf8.text c.start-2.ensures;
+        literal = start_mark text (length text - length rest) c.start.result c.utf8.text c.start.ensures.at;
+        error = start_mark text (length text - length rest) c.start-2.result c.utf8.text c.start-2.ensures.at;
       },
     )

@@ -4,8 +4,8 @@ use Rattle.std.specs.Str.{IsCharBoundary}
 use Rattle.std.proofs.lemmas.Str.{IsCharBoundary-at_seam}
 use Rattle.litrs_explain.proofs.explainer.Explainer.take_held.Goals as goal
 
-pub returns : goal.returns
-returns c =
+pub returns-clause-boundary : goal.returns-clause-boundary
+returns-clause-boundary c =
     let text = string_bytes c.push_str.new.self in
     let before = string_bytes c.replace-text.result in
     let len : c.len-start.result ≡ c.replace-text.result.bytes.len = c.len-start.ensures in
