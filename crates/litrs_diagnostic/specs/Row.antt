@@ -87,7 +87,8 @@ is_line_above None row = false
 is_line_above (Some above) row =
     (above.number == row.number) && (above.is_whole && is_whole row.line)
 
--- `true` iff there are lines between the last one that was written and the one with this number.
+-- `true` iff the line with this number comes after the last one that was written, and there are
+-- lines between the two.
 abbrev pub skips_lines : (above : Option Above) → (number : ℕ) → Bool
 skips_lines None number = false
 skips_lines (Some above) number = nat_lt (above.number + 1) number

@@ -148,7 +148,8 @@ fn is_line_above(above: Option<Above>, row: Row<'_>) -> bool
     }
 }
 
-/// Returns `true` if there are lines between `above` and the line with the number `number`.
+/// Returns `true` if the line with the number `number` comes after `above`, and there are lines
+/// between the two.
 fn skips_lines(above: Option<Above>, number: usize) -> bool
     ensures { result ≡ skips_lines above number }
 {
