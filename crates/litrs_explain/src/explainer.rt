@@ -545,8 +545,8 @@ impl Mark {
         }
     }
 
-    /// Returns the mark at the last place at least [`AROUND`] bytes before `at` at which `text` can be
-    /// cut, or this one if that is not after it.
+    /// Returns the mark at the last place at which `text` can be cut that is at least [`AROUND`]
+    /// bytes before `at`, or this one if that is not after it.
     fn moved_before(self, text: &str, at: usize) -> Mark
         requires { IsMark text.now at self }
         ensures mark { IsMark text.now at result }
