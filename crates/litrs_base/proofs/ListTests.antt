@@ -1,9 +1,10 @@
 -- Tests on lists: the place of the first element that passes.
-use Rattle.std.proofs.Common.{◌≡◌, ℕ, Bool, true, false, not, ◌||◌, cond, ◌≤◌, List, [], ◌∷◌, ◌++◌, length, Option, Some, None, refl, ap, ◌∙◌, subst, arith}
+use Rattle.std.proofs.Common.{◌≡◌, ℕ, Bool, true, false, not, ◌||◌, ◌&&◌, ◌-◌, cond, ◌≤◌, List, [], ◌∷◌, ◌++◌, length, take, drop, Option, Some, None, refl, ap, ◌∙◌, subst, arith}
 use Rattle.std.specs.Prelude.{if◌then◌else◌}
 use Rattle.std.specs.List.{list_all, list_any, position_or_len, before_first, take_while}
 use Rattle.std.proofs.lemmas.Bool.{and_parts}
 use Rattle.std.proofs.lemmas.List.{take_at, take_all}
+use Rattle.std.proofs.lemmas.List.Folds.{list_all-append}
 use Rattle.litrs_base.proofs.Runs.{prefix_len_all}
 use Rattle.std.proofs.lemmas.List.Sums.{take_while-cons}
 
@@ -111,3 +112,27 @@ take_while_whole p (x ∷ xs) h = go (p x) refl (take_while_whole p xs) (subst (
     go false e rec g =
         let g' : length (x ∷ xs) ≤ length {A = ℕ} [] = rw e at g in
         absurd (omega arith)
+
+-- Two parts that overlap are the whole.
+
+windows : (p : ℕ → Bool) (xs ys zs : List ℕ) → (list_all p (xs ++ ys) && list_all p (ys ++ zs)) ≡ list_all p (xs ++ (ys ++ zs))
+windows p xs ys zs = rw (list_all-append p xs ys, list_all-append p xs (ys ++ zs), list_all-append p ys zs) (go (list_all p xs) (list_all p ys) (list_all p zs))
+  where
+    go : (x y z : Bool) → ((x && y) && (y && z)) ≡ (x && (y && z))
+    go false y z = refl
+    go true false z = refl
+    go true true z = refl
+
+-- four to eight elements are the first four and the last four
+pub four_and_four : (p : ℕ → Bool) (bs : List ℕ) → 4 ≤ length bs → length bs ≤ 8 →
+    (list_all p (take 4 bs) && list_all p (take 4 (drop (length bs - 4) bs))) ≡ list_all p bs
+four_and_four p (a ∷ b ∷ c ∷ d ∷ []) low high = windows p [] (a ∷ b ∷ c ∷ d ∷ []) []
+four_and_four p (a ∷ b ∷ c ∷ d ∷ e ∷ []) low high = windows p (a ∷ []) (b ∷ c ∷ d ∷ []) (e ∷ [])
+four_and_four p (a ∷ b ∷ c ∷ d ∷ e ∷ f ∷ []) low high = windows p (a ∷ b ∷ []) (c ∷ d ∷ []) (e ∷ f ∷ [])
+four_and_four p (a ∷ b ∷ c ∷ d ∷ e ∷ f ∷ g ∷ []) low high = windows p (a ∷ b ∷ c ∷ []) (d ∷ []) (e ∷ f ∷ g ∷ [])
+four_and_four p (a ∷ b ∷ c ∷ d ∷ e ∷ f ∷ g ∷ h ∷ []) low high = windows p (a ∷ b ∷ c ∷ d ∷ []) [] (e ∷ f ∷ g ∷ h ∷ [])
+four_and_four p (a ∷ b ∷ c ∷ d ∷ e ∷ f ∷ g ∷ h ∷ i ∷ bs) low high = absurd (omega arith)
+four_and_four p [] low high = absurd (omega arith)
+four_and_four p (a ∷ []) low high = absurd (omega arith)
+four_and_four p (a ∷ b ∷ []) low high = absurd (omega arith)
+four_and_four p (a ∷ b ∷ c ∷ []) low high = absurd (omega arith)

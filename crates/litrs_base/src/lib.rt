@@ -4,6 +4,7 @@
 
 pub use buffer::{Buffer, Text};
 pub use characters::{begins_with_digit, split_first_char};
+pub use digits::are_few_digits;
 pub use err::{ParseError, ParseErrorKind};
 pub use escape::Unescape;
 pub use float::FloatType;
@@ -13,6 +14,7 @@ pub use quotes::{CharKind, StringKind, Switches};
 
 pub mod buffer;
 pub mod characters;
+pub mod digits;
 pub mod err;
 pub mod escape;
 pub mod float;

@@ -160,7 +160,7 @@ refusal_of_cut cut bs u h =
     rw (is.0, is.1, h.base, run) (refusal_of_bytes bs u)
 
 -- among digits and underscores, a character that is not an underscore is a digit
-no_underscore : (base : IntegerBase) (c : ℕ) → is_digit base c ≡ true → eqb c 95 ≡ false
+pub no_underscore : (base : IntegerBase) (c : ℕ) → is_digit base c ≡ true → eqb c 95 ≡ false
 no_underscore Binary c is = grind (arith, nat_tests)
 no_underscore Octal c is = grind (arith, nat_tests)
 no_underscore Decimal c is = grind (arith, nat_tests)

@@ -1,16 +1,18 @@
 -- Numbers: what the cut of the digits says of how a text is parsed.
-use Rattle.std.proofs.Common.{◌≡◌, ℕ, ◌+◌, Bool, true, false, eqb, ◌-◌, List, [], ◌∷◌, length, take, drop, slice_range, None, refl, sym, ap, subst, ◌∙◌, zero-add, arith}
-use Rattle.std.specs.Prelude.{if◌then◌else◌}
-use Rattle.std.specs.Char.{is_ascii_digit}
-use Rattle.std.proofs.Math.Seq.{take-length, drop-length}
+use Rattle.std.proofs.Common.{◌≡◌, ℕ, ◌+◌, ◌≤◌, ◌&&◌, Bool, true, ◌-◌, List, [], ◌∷◌, length, take, drop, slice_range, None, refl, sym, ap, subst, ◌∙◌, zero-add, arith}
+use Rattle.std.specs.Prelude.{if◌then◌else◌, nat_le}
+use Rattle.std.specs.Char.{is_ascii_digit, is_ascii_hexdigit}
+use Rattle.std.proofs.Math.Seq.{drop-length}
+use Rattle.std.proofs.lemmas.List.{take_rest, length-drop}
 use Rattle.std.specs.Str.{chars, IsUtf8}
 use Rattle.std.specs.List.{prefix_len, list_all, list_any}
 use Rattle.std.proofs.lemmas.Bool.{and_parts}
 use Rattle.std.proofs.lemmas.Str.{chars-nil}
 use Rattle.std.proofs.lemmas.Bool.Decides.{nat_tests}
-use Rattle.litrs_base.specs.declared.integer.IntegerBase.TheVariants.{Decimal}
+use Rattle.litrs_base.specs.declared.integer.IntegerBase.TheVariants.{Decimal, Hexadecimal}
 use Rattle.litrs_base.specs.declared.err.ParseError.{ParseError}
-use Rattle.litrs_base.specs.Base.{prefix, is_digit_or_underscore}
+use Rattle.litrs_base.specs.Base.{prefix, is_digit, is_digit_or_underscore}
+use Rattle.litrs_base.specs.declared.integer.IntegerBase.{IntegerBase}
 use Rattle.litrs_base.specs.Text.{first_passes}
 use Rattle.litrs_base.proofs.Chars.{OnlyAscii, prefix_len-chars, passing_front, first_passes-chars}
 use Rattle.litrs_grammar.specs.Literal.{LiteralKind, kind_parse, integer_literal, float_literal}
@@ -24,7 +26,7 @@ use Rattle.litrs_grammar.proofs.LongerTexts.Suffix.{is_suffix-nil}
 use Rattle.litrs_lex.specs.declared.integer.IntegerCut.{IntegerCut}
 use Rattle.litrs_lex.specs.IntegerCut.{integer_parts_at, IsIntegerWithin, IsDigitsCut}
 use Rattle.litrs_lex.specs.NumberCut.{number_kind}
-use Rattle.litrs_lex.proofs.IntegerBytes.{digits_are_ascii, digit-chars, parts_of_cut, places_of_cut, refusal_of_main}
+use Rattle.litrs_lex.proofs.IntegerBytes.{digits_are_ascii, digit-chars, parts_of_cut, places_of_cut, refusal_of_main, no_underscore}
 
 marks_are_ascii : OnlyAscii is_float_mark
 marks_are_ascii c high = grind (arith, nat_tests)
@@ -55,46 +57,72 @@ decimal_float cut bs h ten = ap (λ n. first_passes is_float_mark (drop n bs)) (
 
 -- Digits alone
 
-decimal_digit : (c : ℕ) → is_ascii_digit c ≡ true → is_digit_or_underscore Decimal c ≡ true
-decimal_digit c is = grind (arith, nat_tests)
+digit_or_underscore : (base : IntegerBase) (c : ℕ) → is_digit base c ≡ true → is_digit_or_underscore base c ≡ true
+digit_or_underscore base c is = rw (is) refl
 
-all_digits : (bs : List ℕ) → list_all is_ascii_digit bs ≡ true → prefix_len (is_digit_or_underscore Decimal) bs ≡ length bs
-all_digits [] all = refl
-all_digits (c ∷ bs) all =
-    let parts = and_parts (is_ascii_digit c) (list_all is_ascii_digit bs) all in
-    rw (decimal_digit c parts.0, all_digits bs parts.1) (omega arith)
+all_digits : (base : IntegerBase) (bs : List ℕ) → list_all (is_digit base) bs ≡ true → prefix_len (is_digit_or_underscore base) bs ≡ length bs
+all_digits base [] all = refl
+all_digits base (c ∷ bs) all =
+    let parts = and_parts (is_digit base c) (list_all (is_digit base) bs) all in
+    rw (digit_or_underscore base c parts.0, all_digits base bs parts.1) (omega arith)
 
-no_prefix : (bs : List ℕ) → list_all is_ascii_digit bs ≡ true → base_of bs ≡ Decimal
+no_prefix : (bs : List ℕ) → list_all is_ascii_digit bs ≡ true → Decimal ≡ base_of bs
 no_prefix [] all = refl
 no_prefix (c ∷ []) all = grind (arith, nat_tests)
 no_prefix (c ∷ d ∷ bs) all = grind (arith, nat_tests)
 
--- the cut of a text of digits
-abbrev pub whole_cut : List ℕ → IntegerCut
-whole_cut bs = record { start_main = 0; end_main = length bs; base = Decimal }
+-- the cut of a text of the prefix and digits
+abbrev pub whole_cut : IntegerBase → List ℕ → IntegerCut
+whole_cut base bs = record { start_main = length (prefix base); end_main = length bs; base = base }
 
-whole_is_cut : (bs : List ℕ) → list_all is_ascii_digit bs ≡ true → IsDigitsCut (whole_cut bs) bs
-whole_is_cut bs all = record {
-  base = sym (no_prefix bs all);
+-- a text of the prefix and at least one digit
+pub record IsPrefixAndDigits (base : IntegerBase) (bs : List ℕ) : Type 0 where
+  pub base_is : base ≡ base_of bs
+  pub some : 1 + length (prefix base) ≤ length bs
+  pub all : list_all (is_digit base) (drop (length (prefix base)) bs) ≡ true
+
+-- by the test of the code
+pub short_decimal : (bytes bs : List ℕ) → bytes ≡ bs →
+    (nat_le 1 (length bytes) && nat_le (length bytes) 8 && list_all is_ascii_digit bytes) ≡ true → IsPrefixAndDigits Decimal bs
+short_decimal bytes bs same short =
+    let parts = and_parts (nat_le 1 (length bytes) && nat_le (length bytes) 8) (list_all is_ascii_digit bytes) short in
+    let all : list_all is_ascii_digit bs ≡ true = ap (list_all is_ascii_digit) (sym same) ∙ parts.1 in
+    let some : 1 ≤ length bs = let len = ap length same in let low = (and_parts (nat_le 1 (length bytes)) (nat_le (length bytes) 8) parts.0).0 in grind (arith, nat_tests) in
+    record { base_is = no_prefix bs all; some = some; all = all }
+
+pub short_hexadecimal : (bytes bs : List ℕ) → bytes ≡ bs → Hexadecimal ≡ base_of bs → let digits = take (length bytes - 2) (drop 2 bytes) in
+    (nat_le 1 (length digits) && nat_le (length digits) 8 && list_all is_ascii_hexdigit digits) ≡ true → IsPrefixAndDigits Hexadecimal bs
+short_hexadecimal bytes bs same is short =
+    let digits = take (length bytes - 2) (drop 2 bytes) in
+    let parts = and_parts (nat_le 1 (length digits) && nat_le (length digits) 8) (list_all is_ascii_hexdigit digits) short in
+    let are : digits ≡ drop 2 bs = take_rest bytes 2 ∙ ap (drop 2) same in
+    let some : 3 ≤ length bs = let len = ap length are ∙ length-drop 2 bs in let low = (and_parts (nat_le 1 (length digits)) (nat_le (length digits) 8) parts.0).0 in grind (arith, nat_tests) in
+    record { base_is = is; some = some; all = ap (list_all is_ascii_hexdigit) (sym are) ∙ parts.1 }
+
+whole_is_cut : (base : IntegerBase) (bs : List ℕ) → IsPrefixAndDigits base bs → IsDigitsCut (whole_cut base bs) bs
+whole_is_cut base bs h = record {
+  base = h.base_is;
   start = refl;
-  end = let run = all_digits bs all in omega arith;
+  end = let run = all_digits base (drop (length (prefix base)) bs) h.all in let len = length-drop (length (prefix base)) bs in let some = h.some in omega arith;
   within = omega arith;
 }
 
-some_digit : (bs : List ℕ) → first_passes is_ascii_digit bs ≡ true → list_any is_no_underscore bs ≡ true
-some_digit [] first = cc
-some_digit (c ∷ bs) first = let digit : eqb c 95 ≡ false = grind (arith, nat_tests) in rw (digit) refl
+some_digit : (base : IntegerBase) (bs : List ℕ) → 1 ≤ length bs → list_all (is_digit base) bs ≡ true → list_any is_no_underscore bs ≡ true
+some_digit base [] some all = absurd (omega arith)
+some_digit base (c ∷ bs) some all = rw (no_underscore base c (and_parts (is_digit base c) (list_all (is_digit base) bs) all).0) refl
 
--- digits alone are an integer with no suffix, and nothing else
-pub digits_are_an_integer : (bs : List ℕ) → IsUtf8 bs → first_passes is_ascii_digit bs ≡ true → list_all is_ascii_digit bs ≡ true →
-    IsOnlyDerivation (IsIntegerOf (chars bs)) (integer_parts_at (whole_cut bs) bs) × IsIntegerWithin (whole_cut bs) bs
-digits_are_an_integer bs u first all =
-    let cut = whole_is_cut bs all in
+-- digits alone after the prefix are an integer with no suffix, and nothing else
+pub digits_are_an_integer : (base : IntegerBase) (bs : List ℕ) → IsUtf8 bs → first_passes is_ascii_digit bs ≡ true → IsPrefixAndDigits base bs →
+    IsOnlyDerivation (IsIntegerOf (chars bs)) (integer_parts_at (whole_cut base bs) bs) × IsIntegerWithin (whole_cut base bs) bs
+digits_are_an_integer base bs u first h =
+    let start = length (prefix base) in
+    let cut = whole_is_cut base bs h in
     let none : drop (length bs) bs ≡ [] = drop-length bs in
-    let main : slice_range bs 0 (length bs) ≡ bs = ap (λ n. take n bs) (let whole : length bs - 0 ≡ length bs = omega arith in whole) ∙ take-length bs in
+    let main : slice_range bs start (length bs) ≡ drop start bs = take_rest bs start in
+    let digit : list_any is_no_underscore (drop start bs) ≡ true = some_digit base (drop start bs) (let len = length-drop start bs in let some = h.some in omega arith) h.all in
     let rows : integer_cut_refusal (integer_cut (chars bs)) ≡ None =
-    refusal_of_main (whole_cut bs) bs u cut ∙ rw (none, main, chars-nil, is_suffix-nil, some_digit bs first) refl in
+    refusal_of_main (whole_cut base bs) bs u cut ∙ rw (none, main, chars-nil, is_suffix-nil, digit) refl in
     let free : integer_refusal (chars bs) ≡ None = refusal_of_digit (chars bs) (digit-chars bs u ∙ first) ∙ rows in (
-      subst (λ (d : IntegerParts). IsOnlyDerivation (IsIntegerOf (chars bs)) d) (parts_of_cut (whole_cut bs) bs u cut) (only_cut (chars bs) free),
-      places_of_cut (whole_cut bs) bs u cut,
+      subst (λ (d : IntegerParts). IsOnlyDerivation (IsIntegerOf (chars bs)) d) (parts_of_cut (whole_cut base bs) bs u cut) (only_cut (chars bs) free),
+      places_of_cut (whole_cut base bs) bs u cut,
     )

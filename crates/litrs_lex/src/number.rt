@@ -1,7 +1,6 @@
 //! Numbers.
-ghost use Rattle.std.specs.Prelude.{◌≡◌, ◌&&◌, nat_le, length, IsTrue, IfOk, IfErr, chars};
+ghost use Rattle.std.specs.Prelude.{◌≡◌, IsTrue, IfOk, IfErr, chars};
 ghost use Rattle.std.specs.Char.{is_ascii_digit};
-ghost use Rattle.std.specs.List.{list_all};
 ghost use Rattle.litrs_base.specs.Text.{first_passes};
 ghost use Rattle.litrs_grammar.specs.Literal.{kind_parse};
 ghost use Rattle.litrs_grammar.specs.LiteralRefusals.{begins_with_float};
@@ -11,7 +10,7 @@ ghost use Rattle.litrs_lex.specs.NumberCut.{number_kind, IsNumberCut};
 
 use crate::float::{FloatCut, cut_float_at};
 use crate::integer::{IntegerCut, cut_digits, cut_integer_at};
-use litrs_base::{IntegerBase, ParseError};
+use litrs_base::{IntegerBase, ParseError, are_few_digits};
 
 /// The kind of a number, and the places at which it is cut.
 #[derive(Clone, Copy, Debug, PartialEq, Eq)]
@@ -39,31 +38,19 @@ pub fn cut_number(input: &str) -> Result<NumberCut, ParseError>
     ensures refused { IfErr result
         (IsRefused (kind_parse (number_kind (chars input.now))) (chars input.now)) }
 {
-    if is_short_decimal(input.as_bytes()) {
-        Ok(NumberCut::Integer(IntegerCut {
+    if are_few_digits(input.as_bytes(), IntegerBase::Decimal) {
+        return Ok(NumberCut::Integer(IntegerCut {
             start_main: 0,
             end_main: input.len(),
             base: IntegerBase::Decimal,
-        }))
-    } else {
-        // Moved, so that the base of the shortest integers is not stored there as a byte, and
-        // loaded as a word.
-        Ok(cut_any_number(input)?)
+        }));
     }
+    // Moved, so that the base of the shortest integers is not stored there as a byte, and loaded as
+    // a word.
+    Ok(cut_any_number(input)?)
 }
 
-/// Returns `true` if `bytes`, which start with a digit, are one to three digits. Reads the byte in
-/// the middle and the last one, without a loop.
-#[inline(always)]
-fn is_short_decimal(bytes: &[u8]) -> bool
-    requires { IsTrue (first_passes is_ascii_digit bytes.now) }
-    ensures { result ≡ (nat_le (length bytes.now) 3 && list_all is_ascii_digit bytes.now) }
-{
-    let len = bytes.len();
-    len <= 3 && bytes[len / 2].is_ascii_digit() && bytes[len - 1].is_ascii_digit()
-}
-
-/// Like [`cut_number`], without the test for the shortest integers.
+/// Like [`cut_number`], without the test for the shortest decimal integers.
 // Not inlined, so that the parse of a literal is small enough to be inlined.
 #[inline(never)]
 fn cut_any_number(input: &str) -> Result<NumberCut, ParseError>
@@ -72,8 +59,18 @@ fn cut_any_number(input: &str) -> Result<NumberCut, ParseError>
     ensures refused { IfErr result
         (IsRefused (kind_parse (number_kind (chars input.now))) (chars input.now)) }
 {
+    let bytes = input.as_bytes();
+    if let [b'0', b'x', digits @ ..] = bytes
+        && are_few_digits(digits, IntegerBase::Hexadecimal)
+    {
+        return Ok(NumberCut::Integer(IntegerCut {
+            start_main: 2,
+            end_main: input.len(),
+            base: IntegerBase::Hexadecimal,
+        }));
+    }
     let cut = cut_digits(input);
-    if begins_with_float(&cut, input.as_bytes()) {
+    if begins_with_float(&cut, bytes) {
         Ok(NumberCut::Float(cut_float_at(input, cut.end_main)?))
     } else {
         Ok(NumberCut::Integer(cut_integer_at(input, cut)?))
