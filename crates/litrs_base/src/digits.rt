@@ -5,8 +5,11 @@ ghost use Rattle.litrs_base.specs.Base.{is_digit};
 
 use crate::IntegerBase;
 
-/// Returns `true` if `bytes` are one to eight digits of `base`. They are read without a loop, since
-/// the end of one would be hard to predict.
+/// Returns `true` if `bytes` are one to eight digits of `base`: for `7f` and the base sixteen, but
+/// not for `7f` and the base ten, nor for `1_0`. See [the reference][ref].
+///
+/// [ref]: https://doc.rust-lang.org/reference/tokens.html#integer-literals
+// Without a loop, because its end would be hard to predict.
 #[inline(always)]
 pub fn are_few_digits(bytes: &[u8], base: IntegerBase) -> bool
     ensures { result ≡ (nat_le 1 (length bytes.now) && nat_le (length bytes.now) 8
