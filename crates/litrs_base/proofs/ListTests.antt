@@ -113,8 +113,7 @@ take_while_whole p (x ∷ xs) h = go (p x) refl (take_while_whole p xs) (subst (
         let g' : length (x ∷ xs) ≤ length {A = ℕ} [] = rw e at g in
         absurd (omega arith)
 
--- Two parts that overlap are the whole.
-
+-- all elements pass if and only if those of two overlapping parts do
 windows : (p : ℕ → Bool) (xs ys zs : List ℕ) → (list_all p (xs ++ ys) && list_all p (ys ++ zs)) ≡ list_all p (xs ++ (ys ++ zs))
 windows p xs ys zs = rw (list_all-append p xs ys, list_all-append p xs (ys ++ zs), list_all-append p ys zs) (go (list_all p xs) (list_all p ys) (list_all p zs))
   where
@@ -123,7 +122,7 @@ windows p xs ys zs = rw (list_all-append p xs ys, list_all-append p xs (ys ++ zs
     go true false z = refl
     go true true z = refl
 
--- four to eight elements are the first four and the last four
+-- of four to eight elements all pass if and only if the first four and the last four do
 pub four_and_four : (p : ℕ → Bool) (bs : List ℕ) → 4 ≤ length bs → length bs ≤ 8 →
     (list_all p (take 4 bs) && list_all p (take 4 (drop (length bs - 4) bs))) ≡ list_all p bs
 four_and_four p (a ∷ b ∷ c ∷ d ∷ []) low high = windows p [] (a ∷ b ∷ c ∷ d ∷ []) []

@@ -5,8 +5,8 @@ ghost use Rattle.litrs_base.specs.Base.{is_digit};
 
 use crate::IntegerBase;
 
-/// Returns `true` if `bytes` are one to eight digits of `base`: for `7f` and the base sixteen, but
-/// not for `7f` and the base ten, nor for `1_0`. See [the reference][ref].
+/// Returns `true` if `bytes` are one to eight digits of `base`. For example, `7f` are digits of the
+/// base sixteen but not of the base ten, and `1_0` are digits of neither. See [the reference][ref].
 ///
 /// [ref]: https://doc.rust-lang.org/reference/tokens.html#integer-literals
 // Without a loop, because its end would be hard to predict.

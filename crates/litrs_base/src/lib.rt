@@ -1,5 +1,5 @@
 //! The types that every layer uses: buffers of texts, types of integers, escapes, and errors; and
-//! the first character of a text.
+//! functions for the first character of a text, and for digits.
 #![tactic(auto)]
 
 pub use buffer::{Buffer, Text};

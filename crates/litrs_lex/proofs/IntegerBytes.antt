@@ -159,22 +159,23 @@ refusal_of_cut cut bs u h =
     let run : start_of bs + run_of bs - start_of bs ≡ run_of bs = omega arith in
     rw (is.0, is.1, h.base, run) (refusal_of_bytes bs u)
 
--- among digits and underscores, a character that is not an underscore is a digit
-pub no_underscore : (base : IntegerBase) (c : ℕ) → is_digit base c ≡ true → eqb c 95 ≡ false
-no_underscore Binary c is = grind (arith, nat_tests)
-no_underscore Octal c is = grind (arith, nat_tests)
-no_underscore Decimal c is = grind (arith, nat_tests)
-no_underscore Hexadecimal c is = grind (arith, nat_tests)
+-- a digit is not an underscore
+pub digit_is_no_underscore : (base : IntegerBase) (c : ℕ) → is_digit base c ≡ true → eqb c 95 ≡ false
+digit_is_no_underscore Binary c is = grind (arith, nat_tests)
+digit_is_no_underscore Octal c is = grind (arith, nat_tests)
+digit_is_no_underscore Decimal c is = grind (arith, nat_tests)
+digit_is_no_underscore Hexadecimal c is = grind (arith, nat_tests)
 
 one_of_two : (digit underscore : Bool) → (digit || underscore) ≡ true → (digit ≡ true → underscore ≡ false) → digit ≡ not underscore
 one_of_two true underscore some apart = sym (ap not (apart refl))
 one_of_two false underscore some apart = sym (ap not some)
 
+-- among digits and underscores, a character that is not an underscore is a digit
 pub any_digit : (base : IntegerBase) (t : List ℕ) → list_all (is_digit_or_underscore base) t ≡ true → list_any (is_digit base) t ≡ list_any is_no_underscore t
 any_digit base [] all = refl
 any_digit base (c ∷ t) all =
     let parts = and_parts (is_digit_or_underscore base c) (list_all (is_digit_or_underscore base) t) all in
-    let first : is_digit base c ≡ is_no_underscore c = one_of_two (is_digit base c) (eqb c 95) parts.0 (no_underscore base c) in
+    let first : is_digit base c ≡ is_no_underscore c = one_of_two (is_digit base c) (eqb c 95) parts.0 (digit_is_no_underscore base c) in
     λ i. first i || any_digit base t parts.1 i
 
 -- the parts that the cut names are those of the characters

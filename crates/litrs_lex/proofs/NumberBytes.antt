@@ -1,12 +1,14 @@
 -- Numbers: what the cut of the digits says of how a text is parsed.
-use Rattle.std.proofs.Common.{◌≡◌, ℕ, ◌+◌, ◌≤◌, ◌&&◌, Bool, true, ◌-◌, List, [], ◌∷◌, length, take, drop, slice_range, None, refl, sym, ap, subst, ◌∙◌, zero-add, arith}
+use Rattle.std.proofs.Common.{◌≡◌, ℕ, ◌+◌, ◌≤◌, ◌&&◌, Bool, true, eqb, ◌-◌, List, [], ◌∷◌, length, take, drop, slice_range, None, refl, sym, ap, subst, ◌∙◌, zero-add, arith}
 use Rattle.std.specs.Prelude.{if◌then◌else◌, nat_le}
 use Rattle.std.specs.Char.{is_ascii_digit, is_ascii_hexdigit}
 use Rattle.std.proofs.Math.Seq.{drop-length}
 use Rattle.std.proofs.lemmas.List.{take_rest, length-drop}
 use Rattle.std.specs.Str.{chars, IsUtf8}
 use Rattle.std.specs.List.{prefix_len, list_all, list_any}
-use Rattle.std.proofs.lemmas.Bool.{and_parts}
+use Rattle.std.proofs.lemmas.Bool.{and_parts, or_left}
+use Rattle.litrs_base.proofs.Runs.{list_all-weaken, prefix_len_all}
+use Rattle.litrs_grammar.proofs.LongerTexts.Dispatch.{digits_base}
 use Rattle.std.proofs.lemmas.Str.{chars-nil}
 use Rattle.std.proofs.lemmas.Bool.Decides.{nat_tests}
 use Rattle.litrs_base.specs.declared.integer.IntegerBase.TheVariants.{Decimal, Hexadecimal}
@@ -26,7 +28,7 @@ use Rattle.litrs_grammar.proofs.LongerTexts.Suffix.{is_suffix-nil}
 use Rattle.litrs_lex.specs.declared.integer.IntegerCut.{IntegerCut}
 use Rattle.litrs_lex.specs.IntegerCut.{integer_parts_at, IsIntegerWithin, IsDigitsCut}
 use Rattle.litrs_lex.specs.NumberCut.{number_kind}
-use Rattle.litrs_lex.proofs.IntegerBytes.{digits_are_ascii, digit-chars, parts_of_cut, places_of_cut, refusal_of_main, no_underscore}
+use Rattle.litrs_lex.proofs.IntegerBytes.{digits_are_ascii, digit-chars, parts_of_cut, places_of_cut, refusal_of_main, digit_is_no_underscore}
 
 marks_are_ascii : OnlyAscii is_float_mark
 marks_are_ascii c high = grind (arith, nat_tests)
@@ -57,19 +59,8 @@ decimal_float cut bs h ten = ap (λ n. first_passes is_float_mark (drop n bs)) (
 
 -- Digits alone
 
-digit_or_underscore : (base : IntegerBase) (c : ℕ) → is_digit base c ≡ true → is_digit_or_underscore base c ≡ true
-digit_or_underscore base c is = rw (is) refl
-
-all_digits : (base : IntegerBase) (bs : List ℕ) → list_all (is_digit base) bs ≡ true → prefix_len (is_digit_or_underscore base) bs ≡ length bs
-all_digits base [] all = refl
-all_digits base (c ∷ bs) all =
-    let parts = and_parts (is_digit base c) (list_all (is_digit base) bs) all in
-    rw (digit_or_underscore base c parts.0, all_digits base bs parts.1) (omega arith)
-
-no_prefix : (bs : List ℕ) → list_all is_ascii_digit bs ≡ true → Decimal ≡ base_of bs
-no_prefix [] all = refl
-no_prefix (c ∷ []) all = grind (arith, nat_tests)
-no_prefix (c ∷ d ∷ bs) all = grind (arith, nat_tests)
+is_run : (base : IntegerBase) (bs : List ℕ) → list_all (is_digit base) bs ≡ true → list_all (is_digit_or_underscore base) bs ≡ true
+is_run base bs all = list_all-weaken (is_digit base) (is_digit_or_underscore base) (λ c h. or_left (is_digit base c) (eqb c 95) h) bs all
 
 -- the cut of a text of the prefix and digits
 abbrev pub whole_cut : IntegerBase → List ℕ → IntegerCut
@@ -81,18 +72,18 @@ pub record IsPrefixAndDigits (base : IntegerBase) (bs : List ℕ) : Type 0 where
   pub some : 1 + length (prefix base) ≤ length bs
   pub all : list_all (is_digit base) (drop (length (prefix base)) bs) ≡ true
 
--- by the test of the code
-pub short_decimal : (bytes bs : List ℕ) → bytes ≡ bs →
+-- if `are_few_digits` returns true
+pub few_decimal_digits : (bytes bs : List ℕ) → bytes ≡ bs →
     (nat_le 1 (length bytes) && nat_le (length bytes) 8 && list_all is_ascii_digit bytes) ≡ true → IsPrefixAndDigits Decimal bs
-short_decimal bytes bs same short =
+few_decimal_digits bytes bs same short =
     let parts = and_parts (nat_le 1 (length bytes) && nat_le (length bytes) 8) (list_all is_ascii_digit bytes) short in
     let all : list_all is_ascii_digit bs ≡ true = ap (list_all is_ascii_digit) (sym same) ∙ parts.1 in
     let some : 1 ≤ length bs = let len = ap length same in let low = (and_parts (nat_le 1 (length bytes)) (nat_le (length bytes) 8) parts.0).0 in grind (arith, nat_tests) in
-    record { base_is = no_prefix bs all; some = some; all = all }
+    record { base_is = sym (digits_base bs (is_run Decimal bs all)); some = some; all = all }
 
-pub short_hexadecimal : (bytes bs : List ℕ) → bytes ≡ bs → Hexadecimal ≡ base_of bs → let digits = take (length bytes - 2) (drop 2 bytes) in
+pub few_hexadecimal_digits : (bytes bs : List ℕ) → bytes ≡ bs → Hexadecimal ≡ base_of bs → let digits = take (length bytes - 2) (drop 2 bytes) in
     (nat_le 1 (length digits) && nat_le (length digits) 8 && list_all is_ascii_hexdigit digits) ≡ true → IsPrefixAndDigits Hexadecimal bs
-short_hexadecimal bytes bs same is short =
+few_hexadecimal_digits bytes bs same is short =
     let digits = take (length bytes - 2) (drop 2 bytes) in
     let parts = and_parts (nat_le 1 (length digits) && nat_le (length digits) 8) (list_all is_ascii_hexdigit digits) short in
     let are : digits ≡ drop 2 bs = take_rest bytes 2 ∙ ap (drop 2) same in
@@ -103,13 +94,13 @@ whole_is_cut : (base : IntegerBase) (bs : List ℕ) → IsPrefixAndDigits base b
 whole_is_cut base bs h = record {
   base = h.base_is;
   start = refl;
-  end = let run = all_digits base (drop (length (prefix base)) bs) h.all in let len = length-drop (length (prefix base)) bs in let some = h.some in omega arith;
+  end = let run = prefix_len_all (is_digit_or_underscore base) (drop (length (prefix base)) bs) (is_run base (drop (length (prefix base)) bs) h.all) in let len = length-drop (length (prefix base)) bs in let some = h.some in omega arith;
   within = omega arith;
 }
 
 some_digit : (base : IntegerBase) (bs : List ℕ) → 1 ≤ length bs → list_all (is_digit base) bs ≡ true → list_any is_no_underscore bs ≡ true
 some_digit base [] some all = absurd (omega arith)
-some_digit base (c ∷ bs) some all = rw (no_underscore base c (and_parts (is_digit base c) (list_all (is_digit base) bs) all).0) refl
+some_digit base (c ∷ bs) some all = rw (digit_is_no_underscore base c (and_parts (is_digit base c) (list_all (is_digit base) bs) all).0) refl
 
 -- digits alone after the prefix are an integer with no suffix, and nothing else
 pub digits_are_an_integer : (base : IntegerBase) (bs : List ℕ) → IsUtf8 bs → first_passes is_ascii_digit bs ≡ true → IsPrefixAndDigits base bs →

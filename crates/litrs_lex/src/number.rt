@@ -30,7 +30,8 @@ pub enum NumberCut {
 /// Returns the error of [`cut_float`](crate::cut_float) or [`cut_integer`](crate::cut_integer).
 ///
 /// [ref]: https://doc.rust-lang.org/reference/tokens.html#number-literals
-// Inlined up to the shortest integers, which are half of the literals of most sources.
+// Only the cut of one to eight decimal digits is inlined. They are half of the literals of most
+// sources.
 #[inline(always)]
 pub fn cut_number(input: &str) -> Result<NumberCut, ParseError>
     requires { IsTrue (first_passes is_ascii_digit input.now) }
@@ -45,12 +46,12 @@ pub fn cut_number(input: &str) -> Result<NumberCut, ParseError>
             base: IntegerBase::Decimal,
         }));
     }
-    // Moved, so that the base of the shortest integers is not stored there as a byte, and loaded as
-    // a word.
+    // Moved, so that the base of an integer of few decimal digits is not stored there as a byte, and
+    // loaded as a word.
     Ok(cut_any_number(input)?)
 }
 
-/// Like [`cut_number`], without the test for the shortest decimal integers.
+/// Like [`cut_number`], without the test for few decimal digits.
 // Not inlined, so that the parse of a literal is small enough to be inlined.
 #[inline(never)]
 fn cut_any_number(input: &str) -> Result<NumberCut, ParseError>

@@ -80,7 +80,7 @@ float_more run m s x all stops =
 no_letter : (d : ℕ) → is_digit_or_underscore Decimal d ≡ true → ((98 == d) ≡ false) × ((111 == d) ≡ false) × ((120 == d) ≡ false)
 no_letter d h = (grind (arith, nat_tests), grind (arith, nat_tests), grind (arith, nat_tests))
 
-digits_base : (t : List ℕ) → list_all (is_digit_or_underscore Decimal) t ≡ true → base_of t ≡ Decimal
+pub digits_base : (t : List ℕ) → list_all (is_digit_or_underscore Decimal) t ≡ true → base_of t ≡ Decimal
 digits_base [] h = refl
 digits_base (c ∷ []) h = go (48 == c) refl
   where

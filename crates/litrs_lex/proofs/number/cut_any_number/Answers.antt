@@ -6,7 +6,7 @@ use Rattle.std.proofs.lemmas.Result.{err_from_is_err_and}
 use Rattle.litrs_grammar.specs.LiteralRefusals.{begins_with_float}
 use Rattle.litrs_base.specs.declared.integer.IntegerBase.TheVariants.{Hexadecimal}
 use Rattle.litrs_grammar.specs.Integer.{base_of}
-use Rattle.litrs_lex.proofs.NumberBytes.{refused_by_kind, short_hexadecimal, digits_are_an_integer}
+use Rattle.litrs_lex.proofs.NumberBytes.{refused_by_kind, few_hexadecimal_digits, digits_are_an_integer}
 use Rattle.litrs_lex.proofs.number.cut_any_number.Goals as goal
 
 pub returns-in_err-cut_float_at-clause-refused : goal.returns-in_err-cut_float_at-clause-refused
@@ -33,4 +33,4 @@ returns-clause-ok c =
     let bytes = c.args.input.now in
     let base : Hexadecimal ≡ base_of bytes = grind (arith, common_steps, nat_tests) in
     digits_are_an_integer Hexadecimal bytes c.utf8.input c.requires
-    (short_hexadecimal c.as_bytes-bytes.result.now bytes c.as_bytes-bytes.ensures.value base (sym c.if-are_few_digits.ensures))
+    (few_hexadecimal_digits c.as_bytes-bytes.result.now bytes c.as_bytes-bytes.ensures.value base (sym c.if-are_few_digits.ensures))
