@@ -46,8 +46,8 @@ pub fn cut_number(input: &str) -> Result<NumberCut, ParseError>
             base: IntegerBase::Decimal,
         }));
     }
-    // Moved, so that the base of an integer of few decimal digits is not stored there as a byte, and
-    // loaded as a word.
+    // Moved, so that the base of an integer of few decimal digits is not stored there as a byte,
+    // and loaded as a word.
     Ok(cut_any_number(input)?)
 }
 
