@@ -631,8 +631,12 @@ class Tests:
         out, _, _ = self.run("--prefix", given=line.encode())
         self.hold(report.encode() in out, f"what is shown of a long line at {start}")
         for words in (["--prefix"], ["--prefix", "--format", "json"]):
-            short, long = (self.seconds(*words, given=b"'ab' " * it) for it in (20_000, 80_000))
-            self.hold(long < 8 * short + 0.5, f"{words}: {short} s, and {long} s for four times it")
+            # Tried again if it takes more, since other processes slow down a run.
+            for _ in range(5):
+                short, long = (self.seconds(*words, given=b"'ab' " * it) for it in (20_000, 80_000))
+                if is_linear := long < 8 * short + 0.5:
+                    break
+            self.hold(is_linear, f"{words}: {short} s, and {long} s for four times it")
 
 
     def try_memory(self, folder):

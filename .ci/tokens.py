@@ -13,9 +13,9 @@ a long text must be in proportion to its length.
 import pathlib
 import random
 import re
+import resource
 import subprocess
 import sys
-import time
 
 TOP = pathlib.Path(__file__).resolve().parent.parent
 TABLE = TOP / "crates/litrs_lexer/tokens"
@@ -137,6 +137,14 @@ def cut(program, text):
     return [(kind.decode(), int(start), int(end)) for kind, start, end in lines]
 
 
+def seconds(program, text):
+    """Returns the processor time of a run of the program on a text."""
+    before = resource.getrusage(resource.RUSAGE_CHILDREN)
+    subprocess.run([program], input=text, stdout=subprocess.DEVNULL, timeout=100, check=True)
+    after = resource.getrusage(resource.RUSAGE_CHILDREN)
+    return after.ru_utime + after.ru_stime - before.ru_utime - before.ru_stime
+
+
 def ranges(tokens, at=0):
     """Returns the kinds and ranges of the tokens from `at` on that are not white space."""
     found = []
@@ -204,18 +212,18 @@ class Tests:
                 self.hold(kept == found, f"{program}: {text} and {front + back}: {kept}, {found}")
 
     def try_time(self, program):
-        """Tests that four times the text takes less than eight times as long."""
+        """Tests that four times the text takes less than eight times the processor time.
+
+        A piece is tried again if it takes more, since other processes slow down a run."""
         for piece in PIECES:
-            spent = []
-            for size in (250_000, 1_000_000) if piece in LONG else (50_000, 200_000):
-                text = (piece * (size // len(piece.encode()))).encode()
-                best = 100.0
-                for _ in range(2):
-                    start = time.monotonic()
-                    cut(program, text)
-                    best = min(best, time.monotonic() - start)
-                spent.append(best)
-            self.hold(spent[1] < 8 * spent[0] + 0.2, f"{program}: {piece!r} takes {spent}")
+            sizes = (250_000, 1_000_000) if piece in LONG else (50_000, 200_000)
+            texts = [(piece * (size // len(piece.encode()))).encode() for size in sizes]
+            for _ in range(5):
+                short, long = (seconds(program, text) for text in texts)
+                if is_linear := long < 8 * short + 0.2:
+                    break
+            took = f"{short} s, and {long} s for four times it"
+            self.hold(is_linear, f"{program}: {piece!r} takes {took}")
 
 
 def main():
