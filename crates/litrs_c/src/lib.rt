@@ -21,7 +21,7 @@ use literals::{NO_LITERAL, write_literal_fields};
 use litrs::{Literal, ParseErrorKind};
 use message::write_refusal;
 use prefix::parse_prefix_text;
-use refusals::{NO_REFUSAL, refusal_fields};
+use refusals::{NO_REFUSAL, write_refusal_fields};
 use std::alloc::Global;
 use std::str;
 
@@ -176,8 +176,10 @@ pub extern "C" fn litrs_parse(alloc: Global, text: &[u8]) -> Answer
         Err(e) => match e.kind() {
             ParseErrorKind::OutOfMemory => return only_status(OUT_OF_MEMORY),
             _ => {
+                let mut refusal = NO_REFUSAL;
+                write_refusal_fields(&e, &mut refusal);
                 return Answer {
-                    refusal: refusal_fields(&e),
+                    refusal,
                     ..only_status(REFUSED)
                 };
             }
@@ -227,7 +229,7 @@ fn parse_text(alloc: Global, text: &str, answer: &mut Answer)
             ParseErrorKind::OutOfMemory => answer.status = OUT_OF_MEMORY,
             _ => {
                 answer.status = REFUSED;
-                answer.refusal = refusal_fields(&e);
+                write_refusal_fields(&e, &mut answer.refusal);
             }
         },
     }

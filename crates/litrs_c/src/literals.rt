@@ -121,6 +121,9 @@ fn integer_fields(lit: &IntegerLit<&str>, suffix: Place) -> LiteralFields
     requires { IsSuffixPlace (length lit.now.raw) (an_integer (integer_parts lit.now)) suffix }
     ensures { IsLiteralFields (length lit.now.raw) (an_integer (integer_parts lit.now)) result }
 {
+    // The address of this copy is passed to `value`. So the literal itself stays in registers, and
+    // no memory is cleared for it in the calls for other texts.
+    let lit = lit.copied();
     let value = lit.value::<u128>();
     let (value_low, value_high) = halves(value.unwrap_or(0));
     LiteralFields {

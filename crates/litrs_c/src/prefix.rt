@@ -7,7 +7,7 @@ ghost use Rattle.litrs_c.specs.RefusalFields.{IsRefusalFields};
 ghost use Rattle.litrs_c.specs.Prefixes.{IsPrefixAnd, IsMalformedAnd, LacksMemoryAt};
 
 use crate::literals::write_literal_fields;
-use crate::refusals::refusal_fields;
+use crate::refusals::write_refusal_fields;
 use crate::tokens::{Cursor, tokens_at};
 use crate::{Answer, LITERAL, NO_PREFIX, NO_STRING, NOT_UTF8, OUT_OF_MEMORY, REFUSED};
 use litrs::ParseErrorKind;
@@ -84,7 +84,7 @@ pub(crate) fn parse_prefix_text(alloc: Global, text: &str, answer: &mut Answer) 
                 ParseErrorKind::OutOfMemory => answer.status = OUT_OF_MEMORY,
                 _ => {
                     answer.status = REFUSED;
-                    answer.refusal = refusal_fields(&malformed.error);
+                    write_refusal_fields(&malformed.error, &mut answer.refusal);
                 }
             }
             malformed.len

@@ -18,26 +18,23 @@ pub(crate) const NO_REFUSAL: RefusalFields = RefusalFields {
     char_span: NOWHERE,
 };
 
-/// Returns the fields of `error`.
+/// Writes the fields of `error` to `fields`.
 #[inline(always)]
-pub(crate) fn refusal_fields(error: &ParseError) -> RefusalFields
-    ensures { IsRefusalFields error.now result }
+pub(crate) fn write_refusal_fields(error: &ParseError, fields: &mut RefusalFields)
+    ensures { IsRefusalFields error.now fields.new }
 {
-    let fields = RefusalFields {
-        kind: error_code(error.kind()),
-        is_final: error.is_final(),
-        is_open: error.is_open(),
-        ..NO_REFUSAL
-    };
+    fields.kind = error_code(error.kind());
+    fields.is_final = error.is_final();
+    fields.is_open = error.is_open();
     let span = error.span();
     if span.is_none() {
-        return fields;
-    }
-    RefusalFields {
-        has_span: true,
-        span: span_place(span),
-        char_span: span_place(error.char_span()),
-        ..fields
+        fields.has_span = false;
+        fields.span = NOWHERE;
+        fields.char_span = NOWHERE;
+    } else {
+        fields.has_span = true;
+        fields.span = span_place(span);
+        fields.char_span = span_place(error.char_span());
     }
 }
 
