@@ -4,3 +4,5 @@ pub mod Cuts
 pub mod Signs
 -- tokens at their places
 pub mod Tokens
+-- the first line feed of a text
+pub mod LineFeeds

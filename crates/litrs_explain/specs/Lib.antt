@@ -2,3 +2,5 @@
 pub mod Report
 -- places in a text
 pub mod Places
+-- comments, and the tokens between them
+pub mod Comments

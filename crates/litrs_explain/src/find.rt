@@ -1,10 +1,9 @@
 //! Finds the literals in any text.
 ghost use Rattle.std.specs.Prelude.{◌≡◌, ◌<◌, ◌≤◌, ◌+◌, length, IfSome};
 ghost use Rattle.std.specs.Str.{IsUtf8};
-ghost use Rattle.litrs_lexer.specs.Tokens.{GivesToken};
 ghost use Rattle.litrs_prefix.specs.Ends.{IsEndOf};
+ghost use Rattle.litrs_explain.specs.Comments.{from_line_feed, SkipsSlashes, SkipsComment, FindsToken};
 ghost use Rattle.litrs_explain.specs.Places.{IsTokenOf};
-ghost use Rattle.litrs_explain.specs.declared.find.Comments.TheVariants.{Rust};
 
 use litrs_lexer::{Token, Tokens};
 
@@ -31,8 +30,8 @@ pub(crate) fn next_token<'a>(left: &mut Tokens<'a>, comments: Comments) -> Optio
         token.start + length left.new.rest.now ≤ length left.old.source.now) }
     ensures shorter { IfSome result (λ _.
         length left.new.rest.now < length left.old.rest.now) }
-    ensures rust { comments ≡ Rust
-        → GivesToken left.old.source.now left.old.rest.now result left.new.rest.now }
+    ensures found { FindsToken comments left.old.source.now left.old.rest.now result
+        left.new.rest.now }
 {
     left.rest = without_slashes(left.rest, comments);
     let token = left.next()?;
@@ -43,12 +42,11 @@ pub(crate) fn next_token<'a>(left: &mut Tokens<'a>, comments: Comments) -> Optio
 /// Returns `text` without the slashes at its front, unless they may begin a comment.
 fn without_slashes(text: &str, comments: Comments) -> &str
     ensures end { IsEndOf text.now result.now }
-    ensures rust { comments ≡ Rust → result.now ≡ text.now }
+    ensures front { SkipsSlashes comments text.now result.now }
 {
-    if comments == Comments::Rust {
-        text
-    } else {
-        text.trim_start_matches('/')
+    match comments {
+        Comments::Rust => text,
+        Comments::None | Comments::Hash => text.trim_start_matches('/'),
     }
 }
 
@@ -56,18 +54,22 @@ fn without_slashes(text: &str, comments: Comments) -> &str
 fn after_comment<'a>(token: Token<'_>, rest: &'a str, comments: Comments) -> &'a str
     ensures end { IsEndOf rest.now result.now }
     ensures utf8 { IsUtf8 rest.now }
-    ensures rust { comments ≡ Rust → result.now ≡ rest.now }
+    ensures left { SkipsComment comments token.entry.text.now rest.now result.now }
 {
-    if comments == Comments::Hash && token.text == "#" {
-        after_line(rest)
-    } else {
-        rest
+    match comments {
+        Comments::Hash => if token.text == "#" {
+            after_line(rest)
+        } else {
+            rest
+        },
+        Comments::None | Comments::Rust => rest,
     }
 }
 
 /// Returns the part of `text` from its first line feed on.
 fn after_line(text: &str) -> &str
-    ensures { IsEndOf text.now result.now }
+    ensures end { IsEndOf text.now result.now }
+    ensures line { result.now ≡ from_line_feed text.now }
 {
     match text.find('\n') {
         Some(len) => &text[len..],
