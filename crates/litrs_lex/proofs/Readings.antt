@@ -139,6 +139,10 @@ value_small w bytes rest offset place len v h r is item small =
     let fit = r.fits in let size = item.fits in let within = item.within in let e = ap length is in let at = r.boundary.0 in
     (body_value r.items, (r.held, omega (arith, length-drop place bytes)))
 
+-- text follows an item
+pub item_inside : (w : Switches) (bytes rest : List ℕ) (place len : ℕ) (v : Option Unescape) → rest ≡ drop place bytes → IsItemAt w rest len v → place + len < length bytes
+item_inside w bytes rest place len v is item = let within = item.within in let e = ap length is in omega (arith, length-drop place bytes)
+
 -- the front of the rest
 
 pub item_of : (w : Switches) (bytes : List ℕ) {s : Stop} {v : Option Unescape} {n : ℕ} → s ≡ stop.Item v n → StandsAt w bytes s → IsItemAt w bytes n v

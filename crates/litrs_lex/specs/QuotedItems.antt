@@ -37,8 +37,8 @@ abbrev pub item_bytes : Option Unescape → List ℕ
 item_bytes None = []
 item_bytes (Some value) = value_bytes value
 
--- The bytes start with an item of `len` bytes. An escape has this value, which is a byte above 7F
--- only if byte escapes are on. A continuation has no value.
+-- The bytes start with an item of `len` bytes, and more follow. An escape has this value, which is
+-- a byte above 7F only if byte escapes are on. A continuation has no value.
 pub record IsItemAt (w : Switches) (bytes : List ℕ) (len : ℕ) (value : Option Unescape)
     : Type 0 where
   pub item : Item
@@ -50,7 +50,7 @@ pub record IsItemAt (w : Switches) (bytes : List ℕ) (len : ℕ) (value : Optio
   pub pushable : IfSome value (λ v. IsTrue (is_pushable w.byte_escapes v))
   pub fits : length (item_bytes value) ≤ len
   pub some : 0 < len
-  pub within : len ≤ length bytes
+  pub within : len < length bytes
   pub boundary : IsCharBoundary bytes len
 
 -- The rest does not start with an item: it starts with the closing quote, or it is refused.

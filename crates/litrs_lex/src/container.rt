@@ -149,14 +149,9 @@ impl EscapeContainer for Vec<u8> {
 
     fn push(&mut self, value: Unescape) -> Result<(), AllocError> {
         match value {
-            Unescape::Byte(byte) => {
-                Vec::push(self, byte)?;
-                Ok(())
-            }
+            Unescape::Byte(byte) => self.extend_from_slice(&[byte]),
             Unescape::Unicode(character) => {
-                let mut buffer = [0; 4];
-                let text = character.encode_utf8(&mut buffer);
-                self.extend_from_slice(text.as_bytes())
+                self.extend_from_slice(character.encode_utf8(&mut [0; 4]).as_bytes())
             }
         }
     }

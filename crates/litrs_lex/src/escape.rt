@@ -70,10 +70,9 @@ pub fn unescape_with(input: &str, allowed: Switches) -> Result<(Unescape, usize)
     let Some(letter) = input.as_bytes().get(1) else {
         return Err(ParseError::in_text(input, Some(0..1), ParseErrorKind::UnterminatedEscape));
     };
-    let unicode = allowed.unicode;
     match *letter {
         b'x' => unescape_hex(input, allowed),
-        b'u' => if unicode {
+        b'u' => if allowed.unicode {
             unescape_unicode(input, allowed)
         } else {
             let kind = ParseErrorKind::UnicodeEscapeInByteLiteral;

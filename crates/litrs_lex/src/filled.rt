@@ -21,6 +21,9 @@ pub(crate) struct Filled<C: EscapeContainer> {
 
 impl<C: EscapeContainer> Filled<C> {
     /// Puts the piece into the container. Returns `false` if it does not fit.
+    ///
+    /// Cold and not inlined, so that the loop that fills the piece keeps its state in registers.
+    #[cold]
     #[inline(never)]
     fn flush(&mut self) -> bool
         requires { IsFalse C.TAKES_BYTES → IsUtf8 self.old.piece }
@@ -64,10 +67,8 @@ impl<C: EscapeContainer> Sink for Filled<C> {
     #[inline(always)]
     fn push_run(&mut self, text: &str, start: usize, end: usize) -> bool {
         let run = &text[start..end];
-        if self.piece.push_part(text.as_bytes(), start, end) {
-            return true;
-        }
-        self.flush() && self.into.push_str(run).is_ok()
+        self.piece.push_part(text.as_bytes(), start, end)
+            || self.flush() && self.into.push_str(run).is_ok()
     }
 
     #[inline(always)]

@@ -131,11 +131,8 @@ pub(crate) fn beginning<A: Allows>(input: &str, offset: usize, allowed: A) -> Re
     ensures { IsReading (A.allowed allowed) input.now offset (λ v. v ≡ []) result }
 {
     let place = first_plain_end(input, offset, allowed);
-    Reading {
-        at: offset,
-        place,
-        mask: Mask::empty_at(place),
-    }
+    let (at, mask) = (offset, Mask::empty_at(place));
+    Reading { at, place, mask }
 }
 
 /// Checks that a suffix follows the closing quote at `place`, which may be empty.

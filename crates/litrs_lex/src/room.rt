@@ -113,9 +113,7 @@ impl<const N: usize> Room<N> {
             Unescape::Unicode(c) => if c.is_ascii() {
                 self.push_bytes(&[c as u8])
             } else {
-                let mut buffer = [0; 4];
-                let text = c.encode_utf8(&mut buffer);
-                self.push_bytes(text.as_bytes())
+                self.push_bytes(c.encode_utf8(&mut [0; 4]).as_bytes())
             },
         }
     }

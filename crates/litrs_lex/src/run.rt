@@ -78,17 +78,26 @@ pub fn run_end(bytes: &[u8], run: Run) -> usize
     bytes.iter().take_while(|b| is_in_run(**b, run)).count()
 }
 
-/// Returns the number of blanks at the front of `bytes`. Spaces are compared by four.
+/// Returns the number of blanks at the front of `bytes`. Spaces are compared by four, after a test
+/// of the first byte, because some continuations have no blanks.
 #[inline(always)]
 pub(crate) fn blanks_len(bytes: &[u8]) -> usize
     ensures run { result ≡ prefix_len is_blank bytes.now }
     ensures within { result ≤ length bytes.now }
 {
-    let mut len = 0;
-    while bytes.len() - len >= 4 && are_spaces(bytes, len) {
-        len += 4;
+    if bytes.len() > 0 && bytes[0] > b' ' {
+        return 0;
     }
-    len + run_end(&bytes[len..], Run::Blanks)
+    let mut len = 0;
+    loop {
+        if bytes.len() - len >= 4 && are_spaces(bytes, len) {
+            len += 4;
+        } else if len < bytes.len() && bytes[len] <= b' ' && is_in_run(bytes[len], Run::Blanks) {
+            len += 1;
+        } else {
+            return len;
+        }
+    }
 }
 
 /// Returns `true` if the four bytes from `at` on are spaces.

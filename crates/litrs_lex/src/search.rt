@@ -41,11 +41,8 @@ impl Mask {
         ensures mask { (what : Special) (bytes : List ℕ) → place ≤ length bytes →
             IsMaskOf what bytes result }
     {
-        Mask {
-            start: place,
-            end: place,
-            bits: 0,
-        }
+        let (start, end, bits) = (place, place, 0);
+        Mask { start, end, bits }
     }
 }
 
@@ -95,9 +92,9 @@ pub fn next_special_masked(bytes: &[u8], from: usize, what: Special, mask: Mask)
     let mut unread = from;
     if from < mask.end {
         let found = mask.bits >> (from - mask.start);
-        // Special bytes in a row are found by a branch, which does not wait for the shift. So are
-        // those of a raw body that have one byte between them.
-        if found % 2 == 1 {
+        // Special bytes of a raw body that are in a row, or have one byte between them, are found
+        // by a branch, which does not wait for the shift.
+        if !what.backslash && found % 2 == 1 {
             return (from, mask);
         }
         if !what.backslash && found % 4 == 2 {

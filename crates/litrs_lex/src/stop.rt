@@ -1,5 +1,5 @@
 //! The item or quote after the plain characters of a body.
-ghost use Rattle.std.specs.Prelude.{◌≡◌, ◌≤◌, ◌==◌, ◌||◌, Some, IfSome, IfOk, IfErr, IsTrue, IsFalse, chars, IsCharBoundary};
+ghost use Rattle.std.specs.Prelude.{◌≡◌, ◌≤◌, ◌<◌, ◌==◌, length, ◌||◌, Some, IfSome, IfOk, IfErr, IsTrue, IsFalse, chars, IsCharBoundary};
 ghost use Rattle.litrs_base.specs.Characters.{double_quote, backslash};
 ghost use Rattle.litrs_base.specs.Text.{first_passes};
 ghost use Rattle.litrs_base.specs.declared.escape.Unescape.TheVariants.{Byte};
@@ -113,34 +113,35 @@ pub(crate) fn first_plain_end<A: Allows>(input: &str, from: usize, allowed: A) -
     requires { IsCharBoundary input.now from }
     ensures { IsPlainRun (A.allowed allowed) input.now from result }
 {
-    let switches = allowed.switches();
-    next_special(input.as_bytes(), from, special(switches))
+    next_special(input.as_bytes(), from, special(allowed.switches()))
 }
 
 /// Like [`first_plain_end`], but starts with the mask of an earlier search, and returns the new
-/// mask. A backslash or `"` at `from` does not cost a search.
+/// mask. After the end of the mask, a backslash or `"` at `from` does not cost a search.
 #[inline(always)]
 pub(crate) fn plain_end(input: &str, from: usize, allowed: Switches, mask: Mask) -> (usize, Mask)
     requires at { IsCharBoundary input.now from }
+    requires inside { from < length input.now }
     requires after { mask.start ≤ from }
     requires mask { IsMaskOf (stops allowed.unicode allowed.allow_nul) input.now mask }
     ensures run { IsPlainRun allowed input.now from result.0 }
     ensures after { result.1.start ≤ result.0 }
     ensures mask { IsMaskOf (stops allowed.unicode allowed.allow_nul) input.now result.1 }
 {
-    if begins_with_stop(&input.as_bytes()[from..]) {
+    if mask.end <= from && begins_with_stop(&input.as_bytes()[from..]) {
         (from, mask)
     } else {
         next_special_masked(input.as_bytes(), from, special(allowed), mask)
     }
 }
 
-/// Returns `true` if `bytes` starts with a backslash or `"`.
+/// Returns `true` if `bytes`, which is not empty, starts with a backslash or `"`.
 #[inline(always)]
 fn begins_with_stop(bytes: &[u8]) -> bool
+    requires { 0 < length bytes.now }
     ensures { result ≡ first_passes (λ c. (c == backslash) || (c == double_quote)) bytes.now }
 {
-    matches!(bytes.first(), Some(b'\\' | b'"'))
+    matches!(bytes[0], b'\\' | b'"')
 }
 
 /// Returns `text` without its last character. An ASCII character, for example a closing quote, is

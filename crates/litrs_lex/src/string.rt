@@ -135,11 +135,8 @@ fn read_value<C: EscapeContainer, A: Allows>(
     requires run { IsPlainRun (A.allowed allowed) input.now offset place }
     ensures { IsReadAsValue C.contents (A.allowed allowed) input.now offset result }
 {
-    let from = Reading {
-        at: offset,
-        place,
-        mask: Mask::empty_at(place),
-    };
+    let (at, mask) = (offset, Mask::empty_at(place));
+    let from = Reading { at, place, mask };
     let mut room = Room::<SHORT>::new();
     // A longer value is moved here, and `finished` is inlined: an error that shares the memory of
     // their results is stored as bytes, and loaded as words.
@@ -303,6 +300,9 @@ fn copied<C: EscapeContainer>(mut into: C, bytes: &[u8]) -> C
 
 /// Puts the value of a literal into the empty container `into`, in which it fits: the bytes
 /// `value`, and the values of the items from the state `from` on.
+///
+/// Not inlined, so that its loop shares no registers with the loop that counts.
+#[inline(never)]
 fn fill_container<C: EscapeContainer, A: Allows>(
     input: &str,
     offset: usize,

@@ -21,17 +21,17 @@ pub unescape_unicode-requires : goal.unescape_unicode-requires
 unescape_unicode-requires c = record {
   begins = begins_letter c.args.input.now 117
       (letter_bytes c.args.input.now c.as_bytes.result.now 117 c.utf8.input c.requires c.as_bytes.ensures.value c.in-Some.ensures.lookup.3.0 (sym c.in-117.is ∙ c.in-Some.ensures.lookup.3.1 0));
-  unicode = c.if-unicode.true;
+  unicode = c.if-allowed.true;
 }
 
-pub returns-else-unicode-clause-refused : goal.returns-else-unicode-clause-refused
-returns-else-unicode-clause-refused c =
+pub returns-else-allowed-clause-refused : goal.returns-else-allowed-clause-refused
+returns-else-allowed-clause-refused c =
     let is = letter_bytes c.args.input.now c.as_bytes.result.now 117 c.utf8.input c.requires c.as_bytes.ensures.value c.in-Some.ensures.lookup.3.0 (sym c.in-117.is ∙ c.in-Some.ensures.lookup.3.1 0) in
-    escape_is_refused _ _ c.in_text-else-unicode.result c.requires
+    escape_is_refused _ _ c.in_text-else-allowed.result c.requires
     (ap (escape_refusal c.args.allowed) (letter_chars c.args.input.now 117 (omega arith) is)
-    ∙ (ap (λ v. escape_refusal (switches v c.args.allowed.byte_escapes c.args.allowed.allow_nul) (92 ∷ 117 ∷ chars (drop 2 c.args.input.now))) c.if-unicode.false
-    ∙ (unicode_off_row _ _ _ ∙ ap Some (sym c.in_text-else-unicode.ensures.refusal))))
-    c.in_text-else-unicode.ensures.char_span
+    ∙ (ap (λ v. escape_refusal (switches v c.args.allowed.byte_escapes c.args.allowed.allow_nul) (92 ∷ 117 ∷ chars (drop 2 c.args.input.now))) c.if-allowed.false
+    ∙ (unicode_off_row _ _ _ ∙ ap Some (sym c.in_text-else-allowed.ensures.refusal))))
+    c.in_text-else-allowed.ensures.char_span
 
 pub unescape_simple-requires : goal.unescape_simple-requires
 unescape_simple-requires c = record {
@@ -44,8 +44,8 @@ unescape_simple-requires c = record {
 pub returns-in-120-clause-refused : goal.returns-in-120-clause-refused
 returns-in-120-clause-refused c = err_refused _ _ c.unescape_hex.result c.requires c.unescape_hex.ensures.refused
 
-pub returns-then-unicode-clause-refused : goal.returns-then-unicode-clause-refused
-returns-then-unicode-clause-refused c = err_refused _ _ c.unescape_unicode.result c.requires c.unescape_unicode.ensures.refused
+pub returns-then-allowed-clause-refused : goal.returns-then-allowed-clause-refused
+returns-then-allowed-clause-refused c = err_refused _ _ c.unescape_unicode.result c.requires c.unescape_unicode.ensures.refused
 
 pub returns-in_default-letter-clause-refused : goal.returns-in_default-letter-clause-refused
 returns-in_default-letter-clause-refused c = err_refused _ _ c.unescape_simple.result c.requires c.unescape_simple.ensures.refused

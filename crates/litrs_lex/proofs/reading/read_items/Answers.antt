@@ -3,7 +3,7 @@ use Rattle.std.proofs.Common.{◌≡◌, ◌<◌, ◌^◌, ◌||◌, not, true, 
 use Rattle.litrs_base.specs.declared.quotes.Switches.{Switches}
 use Rattle.litrs_lex.specs.Reading.{IsReading, IsReadBody, IsItemsEnd, IsLongerThan, IsBodyRefused}
 use Rattle.litrs_lex.proofs.QuotedCuts.{refuses, ends_here}
-use Rattle.litrs_lex.proofs.Readings.{read_held, read_run, read_item, no_run, quote_of, item_of, value_small, fits}
+use Rattle.litrs_lex.proofs.Readings.{read_held, read_run, read_item, no_run, quote_of, item_of, item_inside, value_small, fits}
 use Rattle.litrs_lex.proofs.Sinks.{longer_by_run, longer_by_item}
 use Rattle.litrs_lex.proofs.reading.read_items.Goals as goal
 
@@ -112,3 +112,7 @@ returns-in-Err-clause-reached g c =
       (refuses _ c.args.input.now _ _ _ _ c.in-Err.e c.utf8.input small read c.range_from.ensures.value c.in-Err.ensures.refused).1
           c.offset_span.result c.offset_span.ensures.refusal c.offset_span.ensures.char_span,
     )
+
+pub plain_end-requires-clause-inside : goal.plain_end-requires-clause-inside
+plain_end-requires-clause-inside g c =
+    item_inside _ c.args.input.now _ _ _ _ c.range_from.ensures.value (item_of _ c.range_from.result.now c.in-Ok-Item.field-0-is c.in-Ok-Item.ensures.ok)

@@ -8,7 +8,7 @@ use Rattle.litrs_lex.specs.Mask.{IsMaskOf}
 use Rattle.litrs_lex.specs.Special.{is_special, is_ordinary}
 use Rattle.litrs_lex.proofs.MarkedRuns.{run_through, run_stops, run_empty, run_one, rest_marks}
 use Rattle.litrs_lex.proofs.search.next_special_masked.Goals as goal
-use Rattle.litrs_lex.proofs.search.next_special_masked.Goals.{then-from-mask+else-found-eq1+else-not-what+else-found-ne0, else-from-mask}
+use Rattle.litrs_lex.proofs.search.next_special_masked.Goals.{then-from-mask+else-not-what+else-not-what-2+else-found-ne0, else-from-mask}
 
 pub returns-then-found-eq1-clause-place : goal.returns-then-found-eq1-clause-place
 returns-then-found-eq1-clause-place c =
@@ -52,7 +52,7 @@ returns-in-0-to-3-clause-place c =
     let place : unread + c.ordinary_len.result ≡ unread + prefix_len (is_ordinary c.args.what) (drop unread c.args.bytes.now) =
     ap (λ n. unread + n) (c.ordinary_len.ensures.len ∙ ap (prefix_len (is_ordinary c.args.what)) (take_rest c.args.bytes.now unread)) in
     elim c.if-from-mask.branch [
-      | then-from-mask+else-found-eq1+else-not-what+else-found-ne0 w ↦
+      | then-from-mask+else-not-what+else-not-what-2+else-found-ne0 w ↦
           after_marks c.args.what c.args.bytes.now c.args.mask c.args.from _ _ c.requires.mask c.requires.after (omega arith) (omega arith) w.unread-is place
       | else-from-mask w ↦ unmoved c.args.what c.args.bytes.now c.args.from _ _ w.unread-is place
     ]
@@ -60,7 +60,7 @@ returns-in-0-to-3-clause-place c =
 pub returns-in-4-to-7-clause-place : goal.returns-in-4-to-7-clause-place
 returns-in-4-to-7-clause-place c =
     elim c.if-from-mask.branch [
-      | then-from-mask+else-found-eq1+else-not-what+else-found-ne0 w ↦
+      | then-from-mask+else-not-what+else-not-what-2+else-found-ne0 w ↦
           after_marks c.args.what c.args.bytes.now c.args.mask c.args.from _ _ c.requires.mask c.requires.after (omega arith) (omega arith) w.unread-is c.mask_all.ensures.place
       | else-from-mask w ↦ unmoved c.args.what c.args.bytes.now c.args.from _ _ w.unread-is c.mask_all.ensures.place
     ]
@@ -68,7 +68,7 @@ returns-in-4-to-7-clause-place c =
 pub returns-in-8-to-31-clause-place : goal.returns-in-8-to-31-clause-place
 returns-in-8-to-31-clause-place c =
     elim c.if-from-mask.branch [
-      | then-from-mask+else-found-eq1+else-not-what+else-found-ne0 w ↦
+      | then-from-mask+else-not-what+else-not-what-2+else-found-ne0 w ↦
           after_marks c.args.what c.args.bytes.now c.args.mask c.args.from _ _ c.requires.mask c.requires.after (omega arith) (omega arith) w.unread-is c.mask_all-in-8-to-31.ensures.place
       | else-from-mask w ↦ unmoved c.args.what c.args.bytes.now c.args.from _ _ w.unread-is c.mask_all-in-8-to-31.ensures.place
     ]
@@ -76,7 +76,7 @@ returns-in-8-to-31-clause-place c =
 pub returns-in_default-clause-place : goal.returns-in_default-clause-place
 returns-in_default-clause-place c =
     elim c.if-from-mask.branch [
-      | then-from-mask+else-found-eq1+else-not-what+else-found-ne0 w ↦
+      | then-from-mask+else-not-what+else-not-what-2+else-found-ne0 w ↦
           after_marks c.args.what c.args.bytes.now c.args.mask c.args.from _ _ c.requires.mask c.requires.after (omega arith) (omega arith) w.unread-is c.mask_by_lanes.ensures.place
       | else-from-mask w ↦ unmoved c.args.what c.args.bytes.now c.args.from _ _ w.unread-is c.mask_by_lanes.ensures.place
     ]

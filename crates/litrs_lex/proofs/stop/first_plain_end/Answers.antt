@@ -11,8 +11,8 @@ use Rattle.litrs_lex.proofs.stop.first_plain_end.Goals as goal
 
 pub returns : goal.returns
 returns g c =
-    let w = c.switches-switches.result in
-    subst (λ (v : Switches). IsPlainRun v c.args.input.now c.args.from c.next_special.result) c.switches-switches.ensures
+    let w = c.switches.result in
+    subst (λ (v : Switches). IsPlainRun v c.args.input.now c.args.from c.next_special.result) c.switches.ensures
     (plain_run _ c.args.input.now _ _ c.utf8.input c.requires
     (special_run w.unicode w.byte_escapes w.allow_nul c.args.input.now c.as_bytes.result.now _ _ c.as_bytes.ensures.value
     (c.next_special.ensures.place ∙ ap (λ (s : Special). c.args.from + prefix_len (is_ordinary s) (drop c.args.from c.as_bytes.result.now)) c.special.ensures)))

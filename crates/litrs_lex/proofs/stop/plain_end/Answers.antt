@@ -14,8 +14,8 @@ returns-then-begins_with_stop-clause-run c =
     empty_run _ c.args.input.now c.args.from c.utf8.input c.requires.at
     (ap (first_passes (λ n. (n == 92) || (n == 34))) (sym (rest_is c.as_bytes.result.now c.args.input.now c.args.from c.as_bytes.ensures.value)) ∙ (sym c.begins_with_stop.ensures ∙ c.if-begins_with_stop.true))
 
-pub returns-else-begins_with_stop-clause-run : goal.returns-else-begins_with_stop-clause-run
-returns-else-begins_with_stop-clause-run c =
+pub returns-else-mask-from-clause-run : goal.returns-else-mask-from-clause-run
+returns-else-mask-from-clause-run c =
     plain_run _ c.args.input.now _ _ c.utf8.input c.requires.at
-    (special_run c.args.allowed.unicode c.args.allowed.byte_escapes c.args.allowed.allow_nul c.args.input.now c.as_bytes-else-begins_with_stop.result.now _ _ c.as_bytes-else-begins_with_stop.ensures.value
-    (c.next_special_masked.ensures.place ∙ ap (λ (s : Special). c.args.from + prefix_len (is_ordinary s) (drop c.args.from c.as_bytes-else-begins_with_stop.result.now)) c.special.ensures))
+    (special_run c.args.allowed.unicode c.args.allowed.byte_escapes c.args.allowed.allow_nul c.args.input.now c.as_bytes-else-mask-from.result.now _ _ c.as_bytes-else-mask-from.ensures.value
+    (c.next_special_masked.ensures.place ∙ ap (λ (s : Special). c.args.from + prefix_len (is_ordinary s) (drop c.args.from c.as_bytes-else-mask-from.result.now)) c.special.ensures))

@@ -8,5 +8,5 @@ returns-in-Refused g c = inl c.in-Refused.ensures.reached.1
 
 pub read_items-requires-clause-from : goal.read_items-requires-clause-from
 read_items-requires-clause-from g c =
-    let start = c.empty_at.ensures.start in
-    reading_none _ c.args.input.now _ _ _ _ c.utf8.input c.requires.at c.new-room.ensures c.requires.run (omega arith) (c.empty_at.ensures.mask _ _ c.requires.run.boundary.0)
+    let start = c.empty_at-mask.ensures.start in
+    reading_none _ c.args.input.now _ _ _ _ c.utf8.input c.requires.at c.new-room.ensures c.requires.run (omega arith) (c.empty_at-mask.ensures.mask _ _ c.requires.run.boundary.0)

@@ -21,4 +21,4 @@ returns-then-is_ascii-clause-text g c = λ takes pushable none.
 
 pub returns-else-is_ascii-clause-text : goal.returns-else-is_ascii-clause-text
 returns-else-is_ascii-clause-text g c = λ takes pushable none.
-    subst (λ (v : Unescape). IsUtf8 (value_bytes v)) (sym c.in-Unicode.is) (subst IsUtf8 c.encode_utf8-text.ensures.value c.encode_utf8-text.utf8)
+    subst (λ (v : Unescape). IsUtf8 (value_bytes v)) (sym c.in-Unicode.is) (subst IsUtf8 c.encode_utf8.ensures.value c.encode_utf8.utf8)
