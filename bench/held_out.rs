@@ -52,9 +52,21 @@ const SWEEPS: &[Sweep] = &[
     ("String", "abc\\ each, value of", Valued, &[17_000, 100_000], |_, len| {
         format!("\"{}\"", "abc\\\n    ".repeat(len / 3))
     }),
+    ("String", "abc\\ each, blanks after", Valued, &[0, 1, 2, 3, 4, 8, 20], |_, blanks| {
+        let item = format!("abc\\\n{}", " ".repeat(blanks));
+        format!("\"{}\"", item.repeat(100_000 / item.len()))
+    }),
     ("String", "mixed escapes, value of", Valued, &[17_000, 100_000], |n, len| {
         let body = |n: &mut Numbers| format!("{}{}", n.plain(), n.escape());
         format!("\"{}\"", n.many(len / 2, body))
+    }),
+    ("String", "escapes of all kinds, number of", Valued, &[500, 5000, 50_000], |n, count| {
+        let item = |n: &mut Numbers| match n.below(4) {
+            0 => n.unicode_escape(),
+            1 => "\\\n    ".to_string(),
+            _ => n.escape(),
+        };
+        format!("\"{}\"", n.many(count, item))
     }),
     ("String", "underscores in one escape", Valued, &[0, 1, 8, 16, 100], |_, len| {
         format!("\"\\u{{1{}2}}\"", "_".repeat(len))
