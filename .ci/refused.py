@@ -46,6 +46,7 @@ import re
 import subprocess
 import sys
 import tempfile
+import typing
 
 TOP = pathlib.Path(__file__).resolve().parent.parent
 CRATE = TOP / "crates" / "litrs_vectors"
@@ -226,6 +227,26 @@ def refused_call(printed):
     return match and match[1]
 
 
+class Copy(typing.NamedTuple):
+    """A copy of a process in which one allocation fails, or this one and all later ones."""
+
+    how: str
+    allocation: int
+    asked: int
+    before: int
+    status: int
+    printed: bytes
+
+
+def read_copies(records):
+    """Yields the copies that .ci/refuse.c has recorded."""
+    with open(records, "rb") as file:
+        for head in file:
+            how, *numbers, size = head.split()
+            printed = file.read(int(size) + 1)[:-1]
+            yield Copy(how.decode(), *map(int, numbers), printed)
+
+
 class Build:
     """The calls and faults of one build."""
 
@@ -254,40 +275,41 @@ class Build:
         )
         if (done.stdout, done.stderr, done.returncode) != (HOLDS, b"", 0):
             self.fault(row, f"{done.stdout + done.stderr}, status {done.returncode}")
-        asks = collections.Counter()
-        with open(records, "rb") as file:
-            for head in file:
-                how, allocation, asked, before, status, size = head.split()
-                printed = file.read(int(size) + 1)[:-1]
-                self.copies += 1
-                call = refused_call(printed)
-                asks[call] += how == b"one"
-                asks[MARK] += how == b"one" and int(asked) == MARK
-                stays = int(asked) <= int(before) or int(asked) == MARK
-                holds = stays and (printed, status) == (HOLDS, b"0")
-                is_right = int(asked) != MARK and self.is_right(how, printed, int(status))
-                if not holds and not is_right:
-                    what = f"allocation {int(allocation)}, {how.decode()} refused"
-                    self.fault(row, f"{what}: {printed}, status {int(status)}")
-                if room is not None and call in VALUES and int(asked) != room:
-                    self.fault(row, f"{call} asks for {int(asked)} bytes, and not for {room}")
-        if asks.pop(MARK) != 1:
+        copies = list(read_copies(records))
+        marks = [it.allocation for it in copies if it.asked == MARK]
+        if not marks:
             self.fault(row, "calls that need no memory were not tried")
+        asks = collections.Counter()
+        for copy in copies:
+            call = refused_call(copy.printed)
+            asks[call] += copy.how == "one"
+            self.try_copy(row, copy, marks and copy.allocation == max(marks))
+            if room is not None and call in VALUES and copy.asked != room:
+                self.fault(row, f"{call} asks for {copy.asked} bytes, and not for {room}")
+        self.copies += len(copies)
         for call, count in asks.items():
             if call is not None and count > most_asked(call, row.split("\t")):
                 self.fault(row, f"{call} allocates {count} times")
         records.unlink()
 
-    def is_right(self, how, printed, status):
+    def try_copy(self, row, copy, is_mark):
+        """Tests what a copy did. The block at the end of a row is the last of its size."""
+        stays = is_mark or copy.asked <= copy.before
+        holds = stays and (copy.printed, copy.status) == (HOLDS, 0)
+        if not holds and (is_mark or not self.is_right(copy)):
+            what = f"allocation {copy.allocation}, {copy.how} refused"
+            self.fault(row, f"{what}: {copy.printed}, status {copy.status}")
+
+    def is_right(self, copy):
         """Returns whether a copy in which one or all allocations fail has a correct result."""
-        if (printed, status) == (ENDED, 1):
+        if (copy.printed, copy.status) == (ENDED, 1):
             return True
-        call = refused_call(printed)
+        call = refused_call(copy.printed)
         if call is None:
             return False
         self.refused[call] += 1
-        rest = printed.partition(b"\n")[2]
-        return (rest, status) == ((HOLDS, 0) if how == b"one" else (ENDED, 1))
+        rest = copy.printed.partition(b"\n")[2]
+        return (rest, copy.status) == ((HOLDS, 0) if copy.how == "one" else (ENDED, 1))
 
     def fault(self, row, what):
         self.faults.append(f"{row[:200]}: {what}")
