@@ -308,11 +308,7 @@ class Tests:
         kinds += [b"/*\n" * 9, b'"' + b'\\"\n' * 9, b"r" + b"#" * 200 + b'"' + b'"#\n' * 9]
         for kind in kinds:
             first, second = kind[: kind.index(b"\n") + 1], kind[kind.index(b"\n") + 1 :]
-            short, long = (
-                self.seconds("--prefix", given=b"0b2\n" + first + second * it)
-                for it in (5_000, 20_000)
-            )
-            self.hold(long < 8 * short + 0.5, f"{kind}: {short} s, and {long} s for four times it")
+            self.try_linear(["--prefix"], b"0b2\n" + first, second, 5_000)
 
     def try_page(self, folder):
         """Tries the line of JSON in docs/EXPLAIN.md."""
@@ -617,6 +613,17 @@ class Tests:
         after = resource.getrusage(resource.RUSAGE_CHILDREN)
         return after.ru_utime + after.ru_stime - before.ru_utime - before.ru_stime
 
+    def try_linear(self, words, front, part, count):
+        """Tests that a text with a part four times as often takes less than eight times the
+        processor time. A run is tried again if it takes more, since others slow it down."""
+        for _ in range(5):
+            texts = (front + part * it for it in (count, 4 * count))
+            short, long = (self.seconds(*words, given=it) for it in texts)
+            if is_linear := long < 8 * short + 0.5:
+                break
+        took = f"{short} s, and {long} s for four times it"
+        self.hold(is_linear, f"{words}: {part!r} takes {took}")
+
     def try_refused(self):
         """Tries a line with an error in each of its words."""
         wrong, count = "'ab' ", 2000
@@ -631,13 +638,7 @@ class Tests:
         out, _, _ = self.run("--prefix", given=line.encode())
         self.hold(report.encode() in out, f"what is shown of a long line at {start}")
         for words in (["--prefix"], ["--prefix", "--format", "json"]):
-            # Tried again if it takes more, since other processes slow down a run.
-            for _ in range(5):
-                short, long = (self.seconds(*words, given=b"'ab' " * it) for it in (20_000, 80_000))
-                if is_linear := long < 8 * short + 0.5:
-                    break
-            self.hold(is_linear, f"{words}: {short} s, and {long} s for four times it")
-
+            self.try_linear(words, b"", wrong.encode(), 20_000)
 
     def try_memory(self, folder):
         """Makes each allocation fail in turn, over a literal of each kind and some errors."""
