@@ -153,7 +153,7 @@ def escaped(data):
 def some_lengths(draw):
     """Returns lengths around each constant of the code, and others."""
     lengths = {0, 1, 5, 333, 1000, 5000}
-    for constant in [8, 16, 32, 64, 80, 128, 1024, 4096, 8192, 16384]:
+    for constant in [8, 16, 32, 64, 80, 128, 1024, 4096, 8192, 16384, 32768]:
         lengths |= {constant - 1, constant, constant + 1}
     return sorted(lengths | {draw.randrange(5000) for _ in range(DRAWN)})
 
@@ -201,7 +201,7 @@ def ended():
     """Yields rows of strings that are too long to be built on the stack. Their values end in every
     number of escapes up to 130, which is two more than are copied at a time."""
     for count in range(131):
-        plain, escapes, value = 16500 * "a", count * "\\n", count * "%0A"
+        plain, escapes, value = 33_000 * "a", count * "\\n", count * "%0A"
         how = "escaped" if count else "plain"
         yield f'Literal,StringLit\t"{plain}{escapes}"\tstring\t\t{how}\t{plain}{value}'
 

@@ -78,8 +78,8 @@ pub fn run_end(bytes: &[u8], run: Run) -> usize
     bytes.iter().take_while(|b| is_in_run(**b, run)).count()
 }
 
-/// Returns the number of blanks at the front of `bytes`. Spaces are compared by four, after a test
-/// of the first byte, because some continuations have no blanks.
+/// Returns the number of blanks at the front of `bytes`. Most are spaces, which are compared by
+/// four, and the last of them one by one.
 #[inline(always)]
 pub(crate) fn blanks_len(bytes: &[u8]) -> usize
     ensures run { result ≡ prefix_len is_blank bytes.now }
@@ -89,14 +89,15 @@ pub(crate) fn blanks_len(bytes: &[u8]) -> usize
         return 0;
     }
     let mut len = 0;
-    loop {
-        if bytes.len() - len >= 4 && are_spaces(bytes, len) {
-            len += 4;
-        } else if len < bytes.len() && bytes[len] <= b' ' && is_in_run(bytes[len], Run::Blanks) {
-            len += 1;
-        } else {
-            return len;
-        }
+    while bytes.len() - len >= 4 && are_spaces(bytes, len) {
+        len += 4;
+    }
+    match &bytes[len..] {
+        [b, ..] if *b > b' ' => len,
+        [b' ', b, ..] if *b > b' ' => len + 1,
+        [b' ', b' ', b, ..] if *b > b' ' => len + 2,
+        [b' ', b' ', b' ', b, ..] if *b > b' ' => len + 3,
+        rest => len + run_end(rest, Run::Blanks),
     }
 }
 

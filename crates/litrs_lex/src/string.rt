@@ -28,7 +28,7 @@ const SHORT: usize = 128;
 const LONG: usize = 4096;
 
 /// The size in bytes of the third buffer. The rest of a longer value is read twice.
-const LONGEST: usize = 4 * LONG;
+const LONGEST: usize = 8 * LONG;
 
 /// Unescapes a quoted literal whose body starts at `offset`. Returns the value, or `None` if the
 /// body has no backslash and equals the value, and the place of the suffix, in bytes. For
