@@ -8,6 +8,9 @@ use crate::{Numbers, Row, Texts, corpus, row, times_of};
 const TEXTS: usize = 1000;
 const BYTES: usize = 1 << 18;
 
+/// The lengths in bytes of long values. The greatest buffer on the stack has 32,768.
+const LONG_VALUES: &[usize] = &[17_000, 34_000, 100_000];
+
 /// A kind of literal, the name of a shape, the expected result, its sizes, and a function that
 /// draws a text of a size.
 type Sweep = (&'static str, &'static str, Texts, &'static [usize], fn(&mut Numbers, usize) -> String);
@@ -46,17 +49,17 @@ const SWEEPS: &[Sweep] = &[
     ("String", "refused: \\x4", Refused, &[1], |_, _| "\"\\x4\"".to_string()),
     ("CString", "refused: \\u{0}", Refused, &[1], |_, _| "c\"\\u{0}\"".to_string()),
     ("String", "only LF continuations", Valued, &[4, 16, 64, 1000], |_, count| format!("\"{}\"", "\\\n".repeat(count))),
-    ("String", "\\n each, value of", Valued, &[17_000, 100_000], |_, len| format!("\"{}\"", "\\n".repeat(len))),
-    ("String", "a\\n each, value of", Valued, &[17_000, 100_000], |_, len| format!("\"{}\"", "a\\n".repeat(len / 2))),
-    ("String", "\\u{1} each, value of", Valued, &[17_000, 100_000], |_, len| format!("\"{}\"", "\\u{1}".repeat(len))),
-    ("String", "abc\\ each, value of", Valued, &[17_000, 100_000], |_, len| {
+    ("String", "\\n each, value of", Valued, LONG_VALUES, |_, len| format!("\"{}\"", "\\n".repeat(len))),
+    ("String", "a\\n each, value of", Valued, LONG_VALUES, |_, len| format!("\"{}\"", "a\\n".repeat(len / 2))),
+    ("String", "\\u{1} each, value of", Valued, LONG_VALUES, |_, len| format!("\"{}\"", "\\u{1}".repeat(len))),
+    ("String", "abc\\ each, value of", Valued, LONG_VALUES, |_, len| {
         format!("\"{}\"", "abc\\\n    ".repeat(len / 3))
     }),
     ("String", "abc\\ each, blanks after", Valued, &[0, 1, 2, 3, 4, 8, 20], |_, blanks| {
         let item = format!("abc\\\n{}", " ".repeat(blanks));
         format!("\"{}\"", item.repeat(100_000 / item.len()))
     }),
-    ("String", "mixed escapes, value of", Valued, &[17_000, 100_000], |n, len| {
+    ("String", "mixed escapes, value of", Valued, LONG_VALUES, |n, len| {
         let body = |n: &mut Numbers| format!("{}{}", n.plain(), n.escape());
         format!("\"{}\"", n.many(len / 2, body))
     }),
@@ -127,7 +130,7 @@ const SWEEPS: &[Sweep] = &[
     ("ByteString", "only \\xNN", Valued, &[1, 16, 81, 400], |n, count| {
         format!("b\"{}\"", n.many(count, |n| format!("\\x{:02x}", n.below(256))))
     }),
-    ("ByteString", "table of bytes", Valued, &[64, 256, 17_000], |n, count| {
+    ("ByteString", "table of bytes", Valued, &[64, 256, 34_000], |n, count| {
         let byte = |n: &mut Numbers| match n.below(3) {
             0 => format!("\\x{:02x}", n.below(256)),
             1 => "\\0".to_string(),
