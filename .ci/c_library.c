@@ -24,16 +24,19 @@
  * - The names of kinds are wrong.
  * - The written literal of a value is not parsed as the value.
  * - A cursor moves or a token is written although there is no token.
+ * - A call on a long text has a wrong result.
  *
  * At each step a walk over a long text must read only the page of its place, the next page and the
  * last one. It may read the last page to know the last character. All other pages are protected, so
- * a step that reads them ends the program by a signal.
+ * a step that reads them ends the program by a signal. So does a call in a thread with 64 KiB of
+ * stack if it needs more.
  *
  * The program is linked with --wrap for malloc, realloc and free. */
 #define _DEFAULT_SOURCE
 
 #include "litrs.h"
 
+#include <pthread.h>
 #include <stdio.h>
 #include <stdlib.h>
 #include <string.h>
@@ -526,6 +529,64 @@ static void hold_edges(void) {
     }
 }
 
+/* The bytes of stack that are enough for every call, and the length of a long text. */
+enum { STACK = 1 << 16, LONG = 300001 };
+
+/* Returns whether all calls find a long literal with this front, and that its start is open. */
+static bool is_long_read(const char *front, uint32_t kind) {
+    static uint8_t text[LONG], room[1];
+    litrs_answer answer;
+    litrs_cursor cursor;
+    litrs_token token;
+    bool holds;
+    size_t i;
+    for (i = 0; i < LONG; i++)
+        text[i] = (uint8_t)"a\\n"[i % 3];
+    memcpy(text, front, strlen(front));
+    text[LONG - 1] = '"';
+    holds = litrs_parse(text, LONG).literal.kind == kind;
+    litrs_parse_into(text, LONG, &answer);
+    holds &= answer.status == LITRS_LITERAL && answer.literal.kind == kind;
+    holds &= litrs_parse_prefix(text, LONG).len == LONG;
+    holds &= litrs_parse_prefix_into(text, LONG, &answer) == LONG;
+    holds &= litrs_value(text, LONG, room, sizeof room).status == LITRS_LITERAL;
+    holds &= litrs_check(text, LONG, &cursor) && litrs_parse_prefix_at(&cursor, &answer) == LONG;
+    holds &= litrs_next_token(&cursor, &token) && cursor.at == LONG;
+    text[LONG - 1] = 'a';
+    holds &= litrs_message(text, LONG, room, sizeof room).len > 1;
+    return holds && litrs_goes_on(text, LONG);
+}
+
+/* Makes the calls on long texts. Returns NULL, or `fault` if a result is wrong. */
+static void *call_on_long_texts(void *fault) {
+    static uint8_t text[LONG], room[1];
+    double wide;
+    float narrow;
+    bool holds = is_long_read("\"", LITRS_STRING) && is_long_read("b\"", LITRS_BYTE_STRING)
+        && is_long_read("c\"", LITRS_C_STRING);
+    memset(text, '\n', LONG);
+    holds &= litrs_write_string(text, LONG, NULL, 0, room, sizeof room).status == LITRS_LITERAL;
+    holds &= litrs_write_bytes(text, LONG, NULL, 0, room, sizeof room).status == LITRS_LITERAL;
+    memset(text, '7', LONG);
+    text[LONG / 2] = '.';
+    holds &= litrs_f64(text, LONG, &wide) == LITRS_LITERAL;
+    holds &= litrs_f32(text, LONG, &narrow) == LITRS_LITERAL;
+    return holds ? NULL : fault;
+}
+
+/* Makes calls in a thread with a small stack. */
+static void hold_stack(void) {
+    pthread_attr_t attributes;
+    pthread_t thread;
+    void *found;
+    char fault;
+    hold(pthread_attr_init(&attributes) == 0, "no attributes of a thread");
+    hold(pthread_attr_setstacksize(&attributes, STACK) == 0, "no thread has so small a stack");
+    hold(pthread_create(&thread, &attributes, call_on_long_texts, &fault) == 0, "no thread");
+    hold(pthread_join(thread, &found) == 0 && found == NULL, "a call on a long text fails");
+    pthread_attr_destroy(&attributes);
+}
+
 /* Tests the names of kinds, and the version. */
 static void hold_names(void) {
     hold(strcmp(litrs_version(), LITRS_VERSION) == 0, "another version");
@@ -552,6 +613,7 @@ int main(void) {
     hold_literals();
     hold_edges();
     hold_window();
+    hold_stack();
     while ((high = getchar()) != EOF) {
         if (high == '\n') {
             print_text(text, len, room);

@@ -651,9 +651,8 @@ def try_texts(folder, installed, module):
     """Tries all texts from C, and from Python in several threads at once. Returns the number of
     texts, and the faults."""
     wrap = "-Wl,--wrap=malloc,--wrap=realloc,--wrap=free"
-    archive = installed / "lib/liblitrs.a"
-    source = TOP / ".ci/c_library.c"
-    program = compiled(["cc", "-std=c99"], installed, folder / "program", source, wrap, archive)
+    words = [TOP / ".ci/c_library.c", wrap, installed / "lib/liblitrs.a", "-pthread"]
+    program = compiled(["cc", "-std=c99"], installed, folder / "program", *words)
     kinds = kinds_of_refusals()
     rows = [*wanted_of_rows(kinds), *wanted_of_tokens()]
     wanted = rows + list(wanted_of_prefixes(rows))

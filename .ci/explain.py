@@ -614,8 +614,9 @@ class Tests:
         return after.ru_utime + after.ru_stime - before.ru_utime - before.ru_stime
 
     def try_linear(self, words, front, part, count):
-        """Tests that a text with a part four times as often takes less than eight times the
-        processor time. A run is tried again if it takes more, since others slow it down."""
+        """Tests that four times `count` copies of `part` after `front` take less than eight times
+        the processor time of `count`. Both are run up to five times, since other processes slow
+        down a run."""
         for _ in range(5):
             texts = (front + part * it for it in (count, 4 * count))
             short, long = (self.seconds(*words, given=it) for it in texts)

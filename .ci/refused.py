@@ -24,7 +24,7 @@ these rows there are no copies in which all later allocations fail.
 
 Last, each build runs without a failure on more rows, all of which must hold. Some have texts with
 parts of every length below 512 and of drawn lengths. The others have values that end in every
-number of escapes up to 130.
+number of escapes up to 130, and in about 1,024.
 
 Fails if a copy does anything else. Fails if an allocation of a call that is not listed below fails,
 or if none of a listed call fails. Fails also if a call allocates more often than this:
@@ -151,9 +151,10 @@ def escaped(data):
 
 
 def some_lengths(draw):
-    """Returns lengths around each constant of the code, and others."""
-    lengths = {0, 1, 5, 333, 1000, 5000}
-    for constant in [8, 16, 32, 64, 80, 128, 1024, 4096, 8192, 16384, 32768]:
+    """Returns lengths around each constant of the code, that of the block at the end of a row, and
+    others."""
+    lengths = {0, 1, 5, 333, 1000, 5000, MARK}
+    for constant in [8, 16, 32, 64, 80, 128, 1024, 4096, 8192, 32768]:
         lengths |= {constant - 1, constant, constant + 1}
     return sorted(lengths | {draw.randrange(5000) for _ in range(DRAWN)})
 
@@ -199,8 +200,8 @@ def generated(lengths, draw):
 
 def ended():
     """Yields rows of strings that are too long to be built on the stack. Their values end in every
-    number of escapes up to 130, which is two more than are copied at a time."""
-    for count in range(131):
+    number of escapes up to 130, and in about 1,024, the bytes that are copied at a time."""
+    for count in [*range(131), *range(1020, 1029)]:
         plain, escapes, value = 33_000 * "a", count * "\\n", count * "%0A"
         how = "escaped" if count else "plain"
         yield f'Literal,StringLit\t"{plain}{escapes}"\tstring\t\t{how}\t{plain}{value}'
