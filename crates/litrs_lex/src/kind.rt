@@ -29,8 +29,7 @@ pub enum Front {
 }
 
 impl Front {
-    /// Returns the front of `text`: for `b"a` that is the front of a quoted byte string. No other
-    /// kind starts like a bool, so bools come last.
+    /// Returns the front of `text`: for `b"a` that is the front of a quoted byte string.
     #[tactic(auto, unfolding(litrs_grammar::specs::LiteralRefusals::dispatch))]
     #[inline(always)]
     pub fn of(text: &str) -> Front
@@ -40,6 +39,10 @@ impl Front {
             [] => Front::Empty,
             // One branch for all letters, so that a name is not compared with each quote and digit.
             [first, ..] if *first >= b'A' => match text.as_bytes() {
+                [b't' | b'f', ..] => match cut_bool(text) {
+                    Some(value) => Front::Bool(value),
+                    None => Front::Other,
+                },
                 [b'r', ..] => Front::Raw(StringKind::String),
                 [b'b', rest @ ..] => match rest {
                     [b'\'', ..] => Front::Byte,
@@ -52,10 +55,7 @@ impl Front {
                     [b'r', ..] => Front::Raw(StringKind::CString),
                     _ => Front::Other,
                 },
-                _ => match cut_bool(text) {
-                    Some(value) => Front::Bool(value),
-                    None => Front::Other,
-                },
+                _ => Front::Other,
             },
             [b'0'..=b'9', ..] => Front::Number,
             [b'\'', ..] => Front::Char,
