@@ -11,6 +11,8 @@ mod allocations;
 #[cfg(not(shapes))]
 mod built;
 mod corpus;
+#[cfg(upstream)]
+mod families;
 mod going_on;
 mod held_out;
 #[cfg(rustc_lexer)]
@@ -594,6 +596,11 @@ fn main() {
     let part = std::env::args().nth(1);
     if part.as_deref() == Some("several_lines") {
         several_lines::main();
+        return;
+    }
+    #[cfg(upstream)]
+    if part.as_deref() == Some("families") {
+        families::main();
         return;
     }
     #[cfg(not(shapes))]

@@ -8,11 +8,15 @@ use std::path::Path;
 /// The greatest number of texts of a shape. They are taken at equal distances from all of them.
 const TEXTS: usize = 20_000;
 
+/// The number of literals in a row that are taken together for a row of literals in their order.
+const STRETCH: usize = 1000;
+
 /// The name of the sources, the variable that names their folder, and the extension of their files.
 const CORPORA: &[(&str, &str, &str)] = &[
     ("Rattle", "LITRS_BENCH_SOURCES", "rt"),
     ("rustc", "LITRS_BENCH_RUST", "rs"),
     ("crates", "LITRS_BENCH_CRATES", "rs"),
+    ("programs", "LITRS_BENCH_PROGRAMS", "rs"),
 ];
 
 /// Appends the texts of the files in `folder` and below it that have this extension, in the order
@@ -167,7 +171,17 @@ impl Corpus {
             let len = all.len().min(TEXTS);
             (0..len).map(|i| all[i * all.len() / len].clone()).collect()
         };
-        CLASSES.iter().map(|(kind, name, shape, is)| (*kind, *name, *shape, of(*is))).collect()
+        let mut rows = vec![("", "all in order", Parsed, self.in_order())];
+        rows.extend(CLASSES.iter().map(|(kind, name, shape, is)| (*kind, *name, *shape, of(*is))));
+        rows
+    }
+
+    /// Returns stretches of literals that follow one another, taken at equal distances.
+    fn in_order(&self) -> Vec<String> {
+        let count = TEXTS / STRETCH;
+        let last = self.literals.len().saturating_sub(STRETCH);
+        let starts = (0..count).map(|i| i * last / count);
+        starts.flat_map(|start| self.literals.iter().skip(start).take(STRETCH)).cloned().collect()
     }
 }
 

@@ -1,8 +1,11 @@
 #!/usr/bin/env python3
-"""Draws the table of shapes of bench/figures.txt: both crates by shape, on a logarithmic axis.
+"""Draws the tables of shapes of bench/figures.txt: both crates by shape, on a logarithmic axis.
 
-    bench/picture.py            draws docs/speed.svg, of the shapes below, and bench/shapes.svg
-    bench/picture.py --check    fails if one of them differs from the picture of the table
+    bench/picture.py            draws docs/speed.svg and bench/shapes.svg
+    bench/picture.py --check    fails if one of them differs from the picture of the tables
+
+docs/speed.svg has the shapes below, and at its foot those with the greatest ratios of all rows.
+bench/shapes.svg has the other rows of the first table.
 """
 import dataclasses
 import html
@@ -44,6 +47,8 @@ SHOWN = {
 }
 KINDS = {"ByteString": "byte string", "CString": "C string"}
 SHAPES = {"those with a value in turn": "all kinds that have a value, in turn"}
+# The number of rows at the foot of the picture in docs/.
+WORST = 5
 TOP_EDGE, STEP, LEFT, WIDTH, RATIO = 82, 17, 300, 540, 60
 AXIS_NAMES = ["1 ns", "10 ns", "100 ns", "1 µs", "10 µs", "100 µs", "1 ms", "10 ms"]
 OURS, UPSTREAM, AXIS, INK = "#1f6f50", "#b5651d", "#d8d8d8", "#222222"
@@ -84,13 +89,19 @@ def row_of(line, head):
     return Row(line[:start_shape].strip(), shape.strip(), float(ours), float(upstream), ratio)
 
 
-def read_table():
-    """Returns the machine and the rows of the table of shapes."""
+def read_tables():
+    """Returns the machine, the rows of the table of shapes, and those of the sweeps and sources. A
+    row of the second table begins with a kind, and ends with its bytes, both times, and the ratios
+    of three calls."""
     page = TABLE.read_text()
     lines = iter(page.splitlines())
     head = next(line for line in lines if line.split()[:3] == ["kind", "shape", "bytes"])
     rows = [row_of(line, head) for line in itertools.takewhile(str.strip, lines)]
-    return re.search(r"^Machine: (.+)\.$", page, re.M)[1], rows
+    more = []
+    for line in page.split("\nTexts that the shapes lack.")[1].split("\n\n")[1].splitlines():
+        shape, _, ours, upstream, ratio, *_ = line[11:].rsplit(None, 6)
+        more.append(Row(line[:11].strip(), shape.strip(), float(ours), float(upstream), ratio))
+    return re.search(r"^Machine: (.+)\.$", page, re.M)[1], rows, more
 
 
 def fault_of(rows):
@@ -131,8 +142,10 @@ def axis(bottom):
 
 
 def marks(rows):
-    """Yields a line for each row: its name, both times, and their ratio."""
+    """Yields a line for each row: its name, both times, and their ratio. `None` leaves a gap."""
     for number, row in enumerate(rows):
+        if row is None:
+            continue
         y = TOP_EDGE + STEP * number + 10
         ours, upstream = across(row.ours), across(row.upstream)
         yield text(LEFT - 14, y + 4, row.name(), "end")
@@ -142,9 +155,17 @@ def marks(rows):
         yield text(LEFT + WIDTH + RATIO, y + 4, row.ratio, "end")
 
 
-def picture(machine, rows):
-    """Returns the picture of the rows as SVG."""
-    bottom = TOP_EDGE + STEP * len(rows) + 4
+def foot(number):
+    """Yields the words above the worst rows, of which the first is drawn as row `number`."""
+    if number is not None:
+        y = TOP_EDGE + STEP * (number - 1) + 14
+        yield text(LEFT - 14, y, "the greatest ratios of all rows:", "end")
+
+
+def picture(machine, rows, worst=()):
+    """Returns the picture of the rows as SVG, with the worst rows at its foot."""
+    drawn = [*rows, *([None] if worst else []), *worst]
+    bottom = TOP_EDGE + STEP * len(drawn) + 4
     size = f'width="{LEFT + WIDTH + RATIO + 14}" height="{bottom + 8}"'
     return "\n".join(
         [
@@ -152,24 +173,26 @@ def picture(machine, rows):
             '<rect width="100%" height="100%" fill="white"/>',
             *head_of(machine),
             *axis(bottom),
-            *marks(rows),
+            *marks(drawn),
+            *foot(len(rows) + 1 if worst else None),
             "</svg>\n",
         ]
     )
 
 
 def main(is_check):
-    machine, rows = read_table()
-    if fault := fault_of(rows):
+    machine, rows, more = read_tables()
+    if fault := fault_of([*rows, *more]):
         sys.exit(f"bench/picture.py: {fault}")
     shown, others = ([it for it in rows if it.is_shown() == wanted] for wanted in (True, False))
-    pictures = {"docs/speed.svg": shown, "bench/shapes.svg": others}
+    worst = sorted([*rows, *more], key=lambda row: -row.ours / row.upstream)[:WORST]
+    pictures = {"docs/speed.svg": (shown, worst), "bench/shapes.svg": (others, [])}
     for name, drawn in pictures.items():
         if not is_check:
-            (TOP / name).write_text(picture(machine, drawn))
-        elif not (TOP / name).exists() or (TOP / name).read_text() != picture(machine, drawn):
+            (TOP / name).write_text(picture(machine, *drawn))
+        elif not (TOP / name).exists() or (TOP / name).read_text() != picture(machine, *drawn):
             sys.exit(f"{name} is not what bench/figures.txt gives: run bench/picture.py")
-    print(*(f"{name}: {len(drawn)} shapes" for name, drawn in pictures.items()), sep="\n")
+    print(*(f"{name}: {sum(map(len, it))} shapes" for name, it in pictures.items()), sep="\n")
 
 
 if __name__ == "__main__":

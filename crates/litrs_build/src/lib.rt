@@ -24,7 +24,7 @@
 //!   as `\"` or `\'`;
 //! - other ASCII characters that are not printable ([`is_printable`]), and bytes that are not text,
 //!   as `\x` and two digits;
-//! - other characters that are not printable as `\u{..}`, and so a combining character
+//! - other characters that are not printable as `\u{..}`. So is a combining character
 //!   (Grapheme_Extend) after the opening quote or an escape, as it would be shown on top of that.
 //!
 //! ```

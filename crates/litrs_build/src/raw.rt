@@ -231,8 +231,8 @@ fn is_raw_char(c: char, unicode: bool, allow_nul: bool) -> bool
     c != '\r' && (unicode || c.is_ascii()) && (allow_nul || c != '\0')
 }
 
-/// Returns the least number of hashes that never follow a quote in the body: one more than the
-/// longest run of hashes after a quote, or 0 if the body does not contain a quote.
+/// Returns the least number of hashes that never follow a quote in the body. It is one more than
+/// the longest run of hashes after a quote, or 0 if the body does not contain a quote.
 fn hashes_needed(value: &str) -> usize
     ensures { result ≡ hashes_needed (chars value.now) }
 {

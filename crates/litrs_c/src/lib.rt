@@ -55,7 +55,9 @@ pub const NO_NUMBER: u32 = 6;
 #[repr(C)]
 #[derive(Clone, Copy)]
 pub struct Place {
+    /// The place of the first byte.
     pub start: usize,
+    /// The place after the last byte.
     pub end: usize,
 }
 
@@ -143,6 +145,7 @@ pub struct Written {
 #[repr(C)]
 #[derive(Clone, Copy)]
 pub struct StaticText {
+    /// The text, with its closing zero.
     pub text: &'static [u8],
 }
 

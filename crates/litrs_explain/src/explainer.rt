@@ -463,7 +463,7 @@ fn readable(alloc: Global, line: &[u8]) -> Result<String, AllocError> {
     Ok(text)
 }
 
-/// Returns the part of `text` that `error` marks, where it is the error of the part `piece`.
+/// Returns the part of `text` that `error`, the error of its part `piece`, marks.
 fn marked_part(text: &str, piece: &Range<usize>, error: &ParseError) -> Range<usize>
     requires piece { IsCutBy text.now piece.now }
     requires refused { IsRefusedOrOutOfMemory literal_parse
@@ -488,8 +488,8 @@ fn around_end(text: &str, at: usize) -> usize
     text.floor_char_boundary(at.saturating_add(AROUND))
 }
 
-/// Returns `true` if more text can complete `text` to a literal, where `error` is the error of
-/// `text`. Most kinds of errors tell.
+/// Returns `true` if more text can complete `text`, whose error is `error`, to a literal. Most
+/// kinds of errors tell.
 fn is_incomplete(text: &str, error: &ParseError) -> bool
     ensures { IsRefusedOrOutOfMemory literal_parse (chars text.now) error.now
         → (IsTrue result ↔ Begins literal_parse (chars text.now)) }

@@ -7,14 +7,14 @@ pub fn chars_are_unique()
     ensures { CharsAreUnique }
 {}
 
-/// Proves that a text is either a literal of the kind (a char or a byte) or refused by the table of
-/// the kind, and never both.
+/// Proves that a text is either a literal of the kind (a char or a byte) or rejected by the table
+/// of the kind, and never both.
 #[tactic(auto, using(crate::proofs::Laws::CharByte::chars_are_decided))]
 pub fn chars_are_decided()
     ensures { CharsAreDecided }
 {}
 
-/// Proves that the span of each refusal lies within the text and starts on a character boundary.
+/// Proves that the span of each error lies within the text and starts on a character boundary.
 #[tactic(auto, using(crate::proofs::Spans::CharByte::char_spans_lie_in_text))]
 pub fn char_spans_lie_in_text()
     ensures { CharSpansLieInText }

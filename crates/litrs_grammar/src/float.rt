@@ -7,13 +7,13 @@ pub fn floats_are_unique()
     ensures { FloatsAreUnique }
 {}
 
-/// Proves that a text is either a float or refused by the table, and never both.
+/// Proves that a text is either a float or rejected by the table, and never both.
 #[tactic(auto, using(crate::proofs::Laws::Float::floats_are_decided))]
 pub fn floats_are_decided()
     ensures { FloatsAreDecided }
 {}
 
-/// Proves that the span of each refusal lies within the text and starts on a character boundary.
+/// Proves that the span of each error lies within the text and starts on a character boundary.
 #[tactic(auto, using(crate::proofs::Spans::Float::float_refusal_within))]
 pub fn float_spans_lie_in_text()
     ensures { FloatSpansLieInText }

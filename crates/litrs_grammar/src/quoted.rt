@@ -13,22 +13,22 @@ pub fn quoted_texts_are_unique()
     ensures { QuotedTextsAreUnique }
 {}
 
-/// Proves that at most one pair of kind and span refuses a text.
+/// Proves that a text is rejected with at most one pair of kind and span.
 pub fn quoted_refusals_are_unique()
     ensures { QuotedRefusalsAreUnique }
 {}
 
-/// Proves that a text that starts with the front is a quoted literal or refused.
+/// Proves that a text that starts with the front is a quoted literal or rejected.
 pub fn quoted_texts_are_decided()
     ensures { QuotedTextsAreDecided }
 {}
 
-/// Proves that no text is both a quoted literal and refused as one.
+/// Proves that no text is both a quoted literal and rejected as one.
 pub fn quoted_texts_are_not_refused()
     ensures { QuotedTextsAreNotRefused }
 {}
 
-/// Proves that the span of each refusal lies within the text and starts on a character boundary.
+/// Proves that the span of each error lies within the text and starts on a character boundary.
 pub fn quoted_spans_lie_in_text()
     ensures { QuotedSpansLieInText }
 {}

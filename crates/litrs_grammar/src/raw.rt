@@ -9,12 +9,12 @@ pub fn raw_literals_are_unique()
 {}
 
 /// Proves that a text that starts with the front of a kind is either a raw literal of the kind or
-/// refused by the table, and never both.
+/// rejected by the table, and never both.
 pub fn raw_literals_are_decided()
     ensures { RawLiteralsAreDecided }
 {}
 
-/// Proves that the span of each refusal lies within the text and starts on a character boundary.
+/// Proves that the span of each error lies within the text and starts on a character boundary.
 #[tactic(auto, using(crate::proofs::RawKinds::literal_refusal_within))]
 pub fn raw_spans_lie_in_text()
     ensures { RawSpansLieInText }
@@ -26,13 +26,13 @@ pub fn raw_texts_are_unique()
     ensures { RawTextsAreUnique }
 {}
 
-/// Proves that a text after a front is either a raw literal under the switches or refused by the
+/// Proves that a text after a front is either a raw literal under the switches or rejected by the
 /// table, and never both.
 pub fn raw_texts_are_decided()
     ensures { RawTextsAreDecided }
 {}
 
-/// Proves that the spans of these refusals, counted from the start of the text, lie within the text
+/// Proves that the spans of these errors, counted from the start of the text, lie within the text
 /// and start on a character boundary.
 #[tactic(auto, using(crate::proofs::Spans::Raw::raw_refusal_within))]
 pub fn raw_text_spans_lie_in_text()
@@ -76,14 +76,14 @@ pub fn raw_scans_stay()
     ensures { RawScansStay }
 {}
 
-/// Proves that the first character that is not allowed in a body is refused, whatever follows it.
+/// Proves that the first character that is not allowed in a body is rejected, whatever follows it.
 #[tactic(auto, using(crate::proofs::LongerTexts::Raw::stopped_at))]
 pub fn stopped_bodies_are_refused()
     ensures { StoppedBodiesAreRefused }
 {}
 
-/// Proves that a text refused with a final kind is refused with the same kind and span whatever is
-/// appended.
+/// Proves that a text rejected with a final kind is rejected with the same kind and span whatever
+/// is appended.
 pub fn final_raw_refusals_stay()
     ensures { FinalRawRefusalsStay }
 {}
@@ -111,7 +111,7 @@ pub fn raw_scans_go_on()
     ensures { RawScansGoOn }
 {}
 
-/// Proves that after such a part, if its characters are allowed in a body, the refusal is that of
+/// Proves that after such a part, if its characters are allowed in a body, the error is that of
 /// the rest, moved by the length of the part in bytes.
 #[tactic(auto, using(crate::proofs::RawScans::raw_refusals_go_on))]
 pub fn raw_refusals_go_on()

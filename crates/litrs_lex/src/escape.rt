@@ -211,15 +211,16 @@ pub fn hex_digits(bytes: &[u8]) -> HexDigits
     let mut value = 0;
     while len < bytes.len() {
         let byte = bytes[len];
-        match hex_digit_value(byte) {
-            Some(digit) if count < 6 => {
-                count += 1;
-                value = 16 * value + u32::from(digit);
-                len += 1;
+        if byte != b'_' {
+            match hex_digit_value(byte) {
+                Some(digit) if count < 6 => {
+                    count += 1;
+                    value = 16 * value + u32::from(digit);
+                }
+                _ => break,
             }
-            None if byte == b'_' => len += 1,
-            _ => break,
         }
+        len += 1;
     }
     HexDigits { len, value }
 }

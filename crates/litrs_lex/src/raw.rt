@@ -75,8 +75,11 @@ fn cut_raw(input: &str, offset: usize, allowed: Switches) -> Result<(u8, usize),
 ///
 /// # Errors
 ///
-/// Returns the kind and the span of [`scan_raw_string`] if the hashes end the text, if there are
-/// more than 255, or if a character other than `"` follows at most 255. No such kind is open.
+/// Returns the kind and the span of [`scan_raw_string`], which is not open, in three cases:
+///
+/// - The hashes end the text.
+/// - There are more than 255.
+/// - A character other than `"` follows at most 255.
 ///
 /// [ref]: https://doc.rust-lang.org/reference/tokens.html#raw-string-literals
 #[inline(always)]

@@ -163,7 +163,7 @@ fn finished<C: EscapeContainer, A: Allows>(
     ensures { IsReadAsValue C.contents (A.allowed allowed) input.now offset result }
 {
     check_after_quote(input, offset, place, allowed)?;
-    // A value is shorter than its body where the body has a backslash.
+    // A value is shorter than its body if the body has a backslash.
     if value.len() == place - offset {
         return Ok((None, place + 1));
     }

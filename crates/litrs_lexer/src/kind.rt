@@ -18,14 +18,14 @@ pub enum TokenKind {
     Ident,
     /// A raw identifier, for example `r#fn`.
     RawIdent,
-    /// An identifier directly before `"`, `'` or `#`, where it is a reserved prefix, for example
-    /// `f` in `f"x"`. The quote or hash begins the next token.
+    /// A reserved prefix: an identifier directly before `"`, `'` or `#`, for example `f` in `f"x"`.
+    /// The quote or hash begins the next token.
     UnknownPrefix,
     /// A lifetime or loop label, for example `'a` or `'_`.
     Lifetime,
     /// A raw lifetime, for example `'r#fn`.
     RawLifetime,
-    /// A lifetime directly before `#`, where it is a reserved prefix, for example `'f` in `'f#`.
+    /// A reserved prefix: a lifetime directly before `#`, for example `'f` in `'f#`.
     UnknownPrefixLifetime,
     /// A literal with its suffix, for example `0xFF_u8`, `"a"` or `true`.
     Literal,

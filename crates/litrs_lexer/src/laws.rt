@@ -7,7 +7,7 @@ pub fn tokens_are_unique()
 {}
 
 /// Proves that a malformed literal that `litrs_prefix` reports is the token at the front of the
-/// text, unless the text starts with a bool: `true"a"` is a prefix and a string.
+/// text, unless the text starts with a bool. For example, `true"a"` is a prefix and a string.
 pub fn malformed_prefixes_are_tokens()
     ensures { MalformedPrefixesAreTokens }
 {}

@@ -15,8 +15,12 @@ use litrs_prefix::{is_open_front, prefix_may_change};
 /// If the result is `false`, the token is at the front of every longer text, with the same kind and
 /// text. So a reader of pieces takes it, and an editor keeps it while the text before the edit
 /// stays. A token at the end of the text may change, unless it is a closed block comment, `Unknown`
-/// or punctuation other than `/`. Another token may change in three cases: `r`, `br` or `cr` before
-/// hashes up to the end, `'r` before `#` at the end, and `'` or `b'` before a line feed at the end.
+/// or punctuation other than `/`. Another token may change in three cases:
+///
+/// - `r`, `br` or `cr` before hashes up to the end of the text;
+/// - `'r` before `#` at the end;
+/// - `'` or `b'` before a line feed at the end.
+///
 /// The call does not allocate.
 pub fn token_may_change(text: &str) -> bool
     ensures empty { text.now ≡ [] → IsTrue result }

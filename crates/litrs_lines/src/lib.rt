@@ -219,8 +219,8 @@ fn finish<O: Output>(line: &[u8], reporter: &mut Reporter<O>) -> Result<(), RunE
 ///
 /// Returns `Read` if the input failed, or was read 2^64 - 1 times, which an input whose bytes are
 /// known never is. Returns `Write` if the output failed, and `Memory` if an allocation failed. The
-/// bytes that were written are then a prefix of the reports on the groups of the whole lines that
-/// were read, and of those on the groups of all lines.
+/// bytes that were written then begin the reports on the groups of the whole lines that were read.
+/// They also begin those on the groups of all lines.
 ///
 /// A failed call is never made again, so an error of the kind `Interrupted` ends the run as well:
 /// see [`StdInput`] and [`StdOutput`].

@@ -12,17 +12,20 @@
 //!
 //! ```
 //! use litrs::Literal;
-//! use litrs_prefix::{MalformedPrefix, Prefix, parse_prefix};
+//! use litrs_prefix::{MalformedPrefix, parse_prefix};
 //! use std::alloc::Global;
 //!
 //! /// Returns the number at the front of a text, and the rest after its suffix.
 //! fn number(alloc: Global, text: &str) -> Result<Option<(u64, &str)>, MalformedPrefix> {
-//!     match parse_prefix(alloc, text)? {
-//!         Some(Prefix { literal: Literal::Integer(lit), rest }) => match lit.value::<u64>() {
-//!             Some(value) => Ok(Some((value, rest))),
-//!             None => Ok(None),
+//!     match &parse_prefix(alloc, text)? {
+//!         Some(prefix) => match &prefix.literal {
+//!             Literal::Integer(lit) => match lit.value::<u64>() {
+//!                 Some(value) => Ok(Some((value, prefix.rest))),
+//!                 None => Ok(None),
+//!             },
+//!             _ => Ok(None),
 //!         },
-//!         _ => Ok(None),
+//!         None => Ok(None),
 //!     }
 //! }
 //! // For `1_000u32, 2` that is Ok(Some((1000, ", 2"))), for `x` Ok(None).
@@ -120,8 +123,8 @@ impl Error for MalformedPrefix {}
 /// the parts of a float, so of `0x1F` the `0` is the number, and `x1F` the name. The piece of a
 /// bool is its name. An unterminated string extends to the end of the text, an unterminated char or
 /// byte to the end of the line. If the piece is a literal that the rest may not follow, the
-/// malformed prefix is the shortest longer one that is not a literal: `0x1.` in `0x1.5`, `true"` in
-/// `true"a"`.
+/// malformed prefix is the shortest longer one that is not a literal. For example, that is `0x1.`
+/// in `0x1.5`, and `true"` in `true"a"`.
 ///
 /// [ref]: https://doc.rust-lang.org/reference/tokens.html#literals
 pub fn parse_prefix(alloc: Global, text: &str) -> Result<Option<Prefix<'_>>, MalformedPrefix>

@@ -1,4 +1,4 @@
-//! The message on a refused token, which has no width and no precision.
+//! The message on a rejected token, which has no width and no precision.
 use litrs::IntegerLit;
 use litrs_token::{FromToken, InvalidToken, Literal, TokenError};
 use std::alloc::Global;

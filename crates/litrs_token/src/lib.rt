@@ -12,6 +12,7 @@
 //! use std::alloc::Global;
 //!
 //! /// The value of an attribute, for example `27` in `#[limit = 27]`.
+//! #[derive(Drop)]
 //! enum Limit {
 //!     /// A number of 16 bits.
 //!     Is(u16),

@@ -152,8 +152,8 @@ fn bit_len(number: u64) -> u64
     u64::from(len)
 }
 
-/// Rounds `kept` and a rest to the nearest integer, where `half` is a half; ties to even. The rest
-/// is more than `rest` if `more` is true.
+/// Rounds `kept` and a rest to the nearest integer, or to the even one if both are as near. A half
+/// is `half`. The rest is more than `rest` if `more` is true.
 fn round_to_even(kept: u64, rest: u64, half: u64, more: bool) -> u64
     requires { kept < 2 ^ 53 }
     ensures below { rest < half → result ≡ kept }

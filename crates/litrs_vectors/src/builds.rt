@@ -13,7 +13,7 @@ pub fn call(name: &'static str) -> Call {
     ("litrs_build", name, "&str")
 }
 
-/// Builds the literal of the value and the suffix, but of a bool.
+/// Builds a literal of the value and suffix of `lit`, unless `lit` is a bool.
 pub fn try_build(alloc: Global, lit: &Literal<&str>) -> Outcome {
     let suffix = lit.suffix();
     match lit {

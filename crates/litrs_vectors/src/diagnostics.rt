@@ -35,13 +35,13 @@ fn is_place(text: &str, lines: &Lines, place: &str) -> bool
     text.is_char_boundary(at) && lines.position(at) == wanted && position(text, at) == wanted
 }
 
-/// Tries the message on the first of the ranges of a row, where the others are further ones.
+/// Tries the message on the first range of a row. The other ranges are labels.
 pub fn try_message(alloc: Global, text: &str, answer: &str) -> Outcome {
     try_placed(alloc, text, "1:1:140", answer)
 }
 
-/// Like [`try_message`], where the first field is the line and the column of the first character,
-/// and the width.
+/// Like [`try_message`], for a row whose first field is the line and the column of the first
+/// character, and the width.
 pub fn try_first(alloc: Global, text: &str, answer: &str) -> Outcome {
     let (place, answer) = split(answer);
     try_placed(alloc, text, place, answer)

@@ -8,7 +8,7 @@ use std::alloc::{AllocError, Global};
 use std::process::ExitCode;
 
 /// The length in bytes of an allocation directly before the calls that need no memory.
-/// `.ci/refused.py` knows it, and refuses all memory from there on.
+/// `.ci/refused.py` knows it, and lets all allocations from there on fail.
 const MARK: usize = 9973;
 
 /// The number of bytes that a device takes in a call.

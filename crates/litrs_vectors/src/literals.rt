@@ -53,7 +53,7 @@ fn try_borrowed(
     }
 }
 
-/// Tries a parse over a text that the literal owns, unless the copy was refused.
+/// Tries a parse over a text that the literal owns, unless its allocation failed.
 fn try_owned(
     alloc: Global,
     parse: Parse,

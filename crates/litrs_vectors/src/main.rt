@@ -1,4 +1,4 @@
-//! Tries the rows of a table: literals with their parts, and texts that are refused.
+//! Tries the rows of a table: literals with their parts, and texts that are rejected.
 //!
 //! The table is read from standard input; the comments at its top say how it is written. For each
 //! row that does not hold there is a line on standard output, and the last line says how many rows
@@ -64,7 +64,7 @@ fn try_table(rt: &HostRuntime) -> io::Result<bool> {
     Ok(held == rows)
 }
 
-/// Tries the row of a line, and once more if memory was refused. Returns `true` if it holds.
+/// Tries the row of a line, and once more if an allocation failed. Returns `true` if it holds.
 fn try_line(rt: &HostRuntime, number: u64, line: &str) -> io::Result<bool> {
     let outcome = match rows::try_row(rt.alloc(), line) {
         Outcome::Refused((kind, name, buffer)) => {

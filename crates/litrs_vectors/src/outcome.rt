@@ -11,7 +11,7 @@ pub enum Outcome {
     Holds,
     /// A call has another answer.
     Differs(Call),
-    /// A call was refused memory.
+    /// An allocation of a call failed.
     Refused(Call),
     /// An allocation of the program itself failed.
     Ends(AllocError),
@@ -36,7 +36,7 @@ pub fn agrees(call: Call, holds: bool) -> Outcome {
     }
 }
 
-/// Returns the outcome of a call that fails only if memory is refused.
+/// Returns the outcome of a call that fails only if an allocation fails.
 pub fn made<T: Drop, E: Drop>(call: Call, answer: Result<T, E>) -> Outcome {
     match &answer {
         Ok(_) => Outcome::Holds,

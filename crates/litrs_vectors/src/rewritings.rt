@@ -58,7 +58,7 @@ fn try_texts(alloc: Global, text: &String, style: &Style, answer: &str) -> Outco
         .and(try_text(alloc, call("rewritten_again"), answer, style, answer))
 }
 
-/// Tries the literal of a text that it owns, unless the copy was refused.
+/// Tries the literal of a text that it owns, unless its allocation failed.
 fn try_copy(
     alloc: Global,
     copy: Result<String, AllocError>,

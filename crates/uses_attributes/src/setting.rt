@@ -15,14 +15,23 @@ const NAMES: &str = "`max`, `offset`, `ratio`, `rename` or `skip`";
 /// A setting with its value.
 #[derive(Drop)]
 pub enum Setting {
+    /// `max`, a number of 16 bits.
     Max(u16),
+    /// `offset`, a number of 64 bits, with a sign or without one.
     Offset(i64),
+    /// `ratio`, a float.
     Ratio(f64),
+    /// `rename`, a text.
     Rename(String),
+    /// `skip`, a bool.
     Skip(bool),
 }
 
 /// Returns the name and the value of a setting, for example `max is 16`.
+///
+/// # Errors
+///
+/// Returns `AllocError` if an allocation fails.
 pub fn describe(alloc: Global, setting: &Setting) -> Result<String, AllocError>
     ensures { IfOk result (λ text. Describes setting.now (string_bytes text)) }
 {
@@ -43,6 +52,10 @@ pub fn describe(alloc: Global, setting: &Setting) -> Result<String, AllocError>
 pub type Read<'a> = (Vec<Setting>, Option<Fault<'a>>);
 
 /// Reads the settings of a line up to the first fault.
+///
+/// # Errors
+///
+/// Returns `AllocError` if an allocation fails.
 pub fn read_settings(alloc: Global, line: &str) -> Result<Read<'_>, AllocError>
     ensures all { IfOk result (λ read. HasSettings line.now read.0.items read.1) }
     ensures place { IfOk result (λ read. IfSome read.1 (IsIn line.now)) }
@@ -136,6 +149,10 @@ fn unexpected<'a>(expected: &'static str, at: &'a str, text: &str, rest: &str) -
 }
 
 /// Returns the lines that show a fault in the line with this number.
+///
+/// # Errors
+///
+/// Returns `AllocError` if an allocation fails.
 pub fn show(alloc: Global, line: &str, number: u32, fault: &Fault<'_>) -> Result<String, AllocError>
     requires { IsIn line.now fault.now }
     ensures shows { IfOk result (λ text.

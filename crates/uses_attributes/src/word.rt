@@ -6,11 +6,14 @@ use litrs_value::ValueError;
 use std::fmt;
 use std::ops::Range;
 
-/// The reason for which a line is refused.
+/// The reason why a line is invalid.
 #[derive(Debug, Drop)]
 pub enum Problem {
+    /// The line lacks this.
     Expected(&'static str),
+    /// A block comment is not closed.
     OpenComment,
+    /// The value is malformed or does not fit the setting.
     Value(ValueError),
 }
 
@@ -32,6 +35,7 @@ impl fmt::Display for Problem {
 /// A fault of a line.
 #[derive(Drop)]
 pub struct Fault<'a> {
+    /// The reason why the line is invalid.
     pub problem: Problem,
     /// The end of the line at which the problem is.
     pub at: &'a str,
@@ -45,6 +49,7 @@ pub struct Fault<'a> {
 pub struct Word<'a> {
     /// The text from the token on.
     pub at: &'a str,
+    /// The token.
     pub text: &'a str,
     /// The text after the token.
     pub rest: &'a str,

@@ -37,6 +37,10 @@ fn main(rt: HostRuntime) -> anyhow::Result<()> {
 
 /// Returns the literal `text` in the standard form, or `None` if `text` is not a literal. If it is
 /// not, nothing is allocated.
+///
+/// # Errors
+///
+/// Returns `AllocError` if an allocation fails.
 pub fn formatted(alloc: Global, text: &str) -> Result<Option<String>, AllocError>
     ensures form { IfOk result (λ form. MatchOption form
         (HasNoDerivation (IsLiteral (chars text.now)))

@@ -1,7 +1,7 @@
 //! Laws of the steps of a text.
 ghost use Rattle.litrs_lines.specs.StepLaws.{StepsAreDecided, StepsAreUnique};
 
-/// Proves that each text is a literal, continues in the next line, or is refused.
+/// Proves that each text is a literal, continues in the next line, or is rejected.
 pub fn steps_are_decided()
     ensures { StepsAreDecided }
 {}
