@@ -46,7 +46,7 @@ impl CString {
     /// # Errors
     ///
     /// Returns `AllocError` if the allocation for the zero fails. `bytes` is then dropped.
-    // Not inlined; see `copy_of`.
+    // This is not inlined; see `copy_of`.
     #[inline(never)]
     fn close(mut bytes: Vec<u8>) -> Result<CString, AllocError>
         requires { IsFalse (has_nul bytes.items) }
@@ -62,7 +62,7 @@ impl CString {
     /// # Errors
     ///
     /// Returns `AllocError` if the allocation of the copy fails.
-    // Not inlined, so that the copy passes through memory once on its way into the literal.
+    // This is not inlined, so the copy passes through memory once on its way into the literal.
     #[inline(never)]
     fn copy_of(alloc: Global, bytes: &[u8]) -> Result<CString, AllocError>
         requires { IsFalse (has_nul bytes.now) }

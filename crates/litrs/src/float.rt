@@ -182,7 +182,7 @@ impl FloatLit<&str> {
 }
 
 /// Returns the parts of the float `input`.
-// Not inlined, so that `parse` is small enough to be.
+// This is not inlined, so `parse` is small enough to be.
 #[inline(never)]
 fn cut(input: &str) -> Result<FloatCut, ParseError>
     ensures ok { IfOk result (λ cut.

@@ -175,7 +175,7 @@ impl IntegerLit<&str> {
 }
 
 /// Returns the parts of the integer `input`.
-// Not inlined, so that `parse` is small enough to be.
+// This is not inlined, so `parse` is small enough to be.
 #[inline(never)]
 fn cut(input: &str) -> Result<IntegerCut, ParseError>
     ensures ok { IfOk result (λ cut.

@@ -152,7 +152,7 @@ impl<B: Text> Literal<B> {
     /// `InvalidCStringLiteralStart`.
     /// Returns `OutOfMemory` without a span if `input` is a literal and the allocation of its value
     /// fails.
-    // Inlined, like each parse: CONTRIBUTING says why.
+    // This is inlined, like each parse: CONTRIBUTING says why.
     #[inline(always)]
     pub fn parse(alloc: Global, input: B) -> Result<Literal<B>, ParseError>
         ensures buffer { IfOk result (HasBuffer input) }

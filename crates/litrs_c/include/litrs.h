@@ -37,7 +37,8 @@ extern "C" {
 /* The status of an answer. */
 enum litrs_status {
     LITRS_LITERAL = 0,       /* the text, or its front, is a literal; or one was written */
-    LITRS_REFUSED = 1,       /* no literal, a malformed one, or a suffix that none has */
+    LITRS_REFUSED = 1,       /* the text is not a literal, its front is malformed, or no literal
+                                has the suffix */
     LITRS_NOT_UTF8 = 2,      /* the bytes are not UTF-8 */
     LITRS_OUT_OF_MEMORY = 3, /* no memory for a value, a number's digits, or a literal */
     LITRS_NO_STRING = 4,     /* of litrs_value: the text is a literal, but not a string */

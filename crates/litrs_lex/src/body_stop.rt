@@ -66,7 +66,7 @@ fn rest_stop(rest: &str, allowed: Switches) -> BodyStop
 
 /// Like [`rest_stop`], for a rest that begins with a backslash.
 ///
-/// Not inlined: most rests begin with a quote.
+/// It is not inlined, because most rests begin with a quote.
 #[inline(never)]
 fn slash_stop(rest: &str, allowed: Switches) -> BodyStop
     requires ends { EndsItems allowed (chars rest.now) }

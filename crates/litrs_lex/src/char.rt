@@ -27,7 +27,7 @@ use litrs_base::{CharKind, ParseError, ParseErrorKind, Unescape, split_first_cha
 /// - The error of [`check_suffix`], at the first byte of the suffix.
 ///
 /// [ref]: https://doc.rust-lang.org/reference/tokens.html#character-literals
-// Not inlined, so that `parse` is small enough to be inlined. Each of the two kinds has a function,
+// This is not inlined, so `parse` is small enough to be. Each of the two kinds has a function,
 // so that neither tests the kind.
 #[inline(never)]
 pub fn cut_char(input: &str) -> Result<(char, usize), ParseError>
@@ -60,7 +60,7 @@ pub fn cut_char(input: &str) -> Result<(char, usize), ParseError>
 /// - The error of [`check_suffix`], at the first byte of the suffix.
 ///
 /// [ref]: https://doc.rust-lang.org/reference/tokens.html#byte-literals
-// Not inlined, so that `parse` is small enough to be inlined.
+// This is not inlined, so `parse` is small enough to be.
 #[inline(never)]
 pub fn cut_byte(input: &str) -> Result<(u8, usize), ParseError>
     requires { IsTrue (begins_with (codes "b'") input.now) }

@@ -22,7 +22,7 @@ pub(crate) struct Filled<C: EscapeContainer> {
 impl<C: EscapeContainer> Filled<C> {
     /// Puts the piece into the container. Returns `false` if it does not fit.
     ///
-    /// Cold and not inlined, so that the loop that fills the piece keeps its state in registers.
+    /// It is cold and not inlined, so the loop that fills the piece keeps its state in registers.
     #[cold]
     #[inline(never)]
     fn flush(&mut self) -> bool

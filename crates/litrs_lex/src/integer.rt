@@ -64,7 +64,7 @@ pub(crate) fn cut_integer_at(input: &str, cut: IntegerCut) -> Result<IntegerCut,
 }
 
 /// Cuts `input` after the prefix and after all digits of the base and underscores.
-// Inlined, because a base that is stored as a byte is loaded as a word.
+// This is inlined, because a base that is stored as a byte is loaded as a word.
 #[inline(always)]
 pub(crate) fn cut_digits(input: &str) -> IntegerCut
     ensures { IsDigitsCut result input.now }

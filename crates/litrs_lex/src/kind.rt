@@ -37,7 +37,7 @@ impl Front {
     {
         match text.as_bytes() {
             [] => Front::Empty,
-            // One branch for all letters, so that a name is not compared with each quote and digit.
+            // All letters have one branch, so a name is not compared with each quote and digit.
             [first, ..] if *first >= b'A' => match text.as_bytes() {
                 [b't' | b'f', ..] => match cut_bool(text) {
                     Some(value) => Front::Bool(value),

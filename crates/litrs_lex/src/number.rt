@@ -46,13 +46,13 @@ pub fn cut_number(input: &str) -> Result<NumberCut, ParseError>
             base: IntegerBase::Decimal,
         }));
     }
-    // Moved, so that the base of an integer of few decimal digits is not stored there as a byte,
+    // This is moved, so the base of an integer of few decimal digits is not stored there as a byte,
     // and loaded as a word.
     Ok(cut_any_number(input)?)
 }
 
 /// Like [`cut_number`], without the test for few decimal digits.
-// Not inlined, so that the parse of a literal is small enough to be inlined.
+// This is not inlined, so the parse of a literal is small enough to be.
 #[inline(never)]
 fn cut_any_number(input: &str) -> Result<NumberCut, ParseError>
     requires { IsTrue (first_passes is_ascii_digit input.now) }

@@ -12,7 +12,7 @@ use crate::{Run, run_end};
 use litrs_base::{IntegerBase, ParseError, ParseErrorKind, split_first_char};
 
 /// Returns the number of decimal digits and underscores at the front of `input`: 4 for `1_0_a2`.
-// Not inlined, so that there is one copy of the search.
+// This is not inlined, so there is one copy of the search.
 #[inline(never)]
 pub fn end_dec_digits(input: &[u8]) -> usize
     ensures run { result ≡ prefix_len (is_digit_or_underscore IntegerBase.Decimal) input.now }
@@ -63,7 +63,7 @@ pub(crate) fn begins_with_byte(bytes: &[u8], byte: u8) -> bool
 
 /// Returns `true` if `bytes` contains `byte`.
 ///
-/// Not inlined, so that its callers, which make errors, stay small.
+/// It is not inlined, so its callers, which make errors, stay small.
 #[inline(never)]
 pub(crate) fn has_byte(bytes: &[u8], byte: u8) -> bool
     ensures { result ≡ list_any (λ c. c == byte) bytes.now }
@@ -132,7 +132,7 @@ pub fn check_suffix(s: &str) -> Result<(), ParseErrorKind>
 
 /// Like [`check_suffix`], for a text that is not empty.
 ///
-/// Not inlined, because most suffixes are empty, and callers need only that test.
+/// It is not inlined, because most suffixes are empty, and callers need only that test.
 #[inline(never)]
 fn check_some_suffix(s: &str) -> Result<(), ParseErrorKind>
     ensures ok { is_ok result ≡ is_suffix (chars s.now) }

@@ -95,7 +95,7 @@ pub fn items_end<A: Allows>(input: &str, offset: usize, allowed: A) -> usize
 
 /// Like [`items_end`], from the state `from` on.
 ///
-/// Not inlined, so that a body without a backslash does not need its frame.
+/// It is not inlined, so a body without a backslash does not need its frame.
 #[inline(never)]
 fn read_end<A: Allows>(input: &str, offset: usize, from: Reading, allowed: A) -> usize
     requires { IsReading (A.allowed allowed) input.now offset (λ v. v ≡ []) from }

@@ -45,7 +45,7 @@ pub enum Reached {
 
 /// Reads the items of a body from the state `from` on, and puts their values into `sink`. Stops at
 /// the closing quote, at an error, or if a value does not fit.
-// Inlined, so that an error or a state passes through memory once.
+// This is inlined, so an error or a state passes through memory once.
 #[inline(always)]
 pub(crate) fn read_items<S: Sink, A: Allows>(
     input: &str,

@@ -174,7 +174,7 @@ fn finished<C: EscapeContainer, A: Allows>(
 /// Like [`read_value`], from the state `from` on, with a larger room. The value up to there is
 /// `value`.
 ///
-/// Not inlined, so that shorter values do not need a stack of its size.
+/// It is not inlined, so shorter values do not need a stack of its size.
 #[inline(never)]
 fn read_longer<C: EscapeContainer, A: Allows>(
     alloc: Global,
@@ -301,7 +301,7 @@ fn copied<C: EscapeContainer>(mut into: C, bytes: &[u8]) -> C
 /// Puts the value of a literal into the empty container `into`, in which it fits: the bytes
 /// `value`, and the values of the items from the state `from` on.
 ///
-/// Not inlined, so that its loop shares no registers with the loop that counts.
+/// It is not inlined, so its loop shares no registers with the loop that counts.
 #[inline(never)]
 fn fill_container<C: EscapeContainer, A: Allows>(
     input: &str,

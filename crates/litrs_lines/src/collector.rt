@@ -352,7 +352,7 @@ fn lines_of_held(held: &str) -> &str
 
 /// Returns `lit` as a step, with an owned text.
 ///
-/// Not inlined, so a line that is not a literal does not need room for an owned one.
+/// It is not inlined, so a line that is not a literal does not need room for an owned one.
 #[inline(never)]
 fn literal_step(alloc: Global, lit: Literal<&str>) -> Result<Step, AllocError>
     ensures step { IfOk result (IsLiteralStep lit.entry) }
@@ -422,7 +422,7 @@ fn hold_line(
 /// Adds `line` to the held text and parses all of it, if it does not begin a literal with an LF
 /// after it. After an error the text is as before.
 ///
-/// Not inlined, so a line after which a string continues does not need room for a literal.
+/// It is not inlined, so a line after which a string continues does not need room for a literal.
 #[inline(never)]
 fn read_added(held: &mut String, known: &mut Option<Open>, line: &str) -> Result<Step, AllocError>
     requires known { IsReadToLastLine (string_bytes held.old) known.old }

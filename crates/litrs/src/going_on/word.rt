@@ -32,7 +32,7 @@ fn begins_like_a_front(word: &[u8]) -> bool
 
 /// Returns `true` if `true`, `false`, `b` or `c` starts with `word`.
 ///
-/// Not inlined, so that a text that starts with another letter costs one comparison.
+/// It is not inlined, so a text that starts with another letter costs one comparison.
 #[inline(never)]
 #[tactic(auto, using(crate::proofs::Fronts::starts_with_front))]
 fn any_front_starts_with(word: &[u8]) -> bool
