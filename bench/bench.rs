@@ -603,6 +603,10 @@ fn main() {
         families::main();
         return;
     }
+    if part.as_deref() == Some("sources") {
+        held_out::sources();
+        return;
+    }
     #[cfg(not(shapes))]
     if part.as_deref() == Some("built") {
         built::main();

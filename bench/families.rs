@@ -194,7 +194,8 @@ fn times_of(text: &str) -> Times {
 pub fn main() {
     let mut texts: Vec<String> = FAMILIES.iter().flat_map(|family| texts_of(*family)).collect();
     texts.extend(between_hashes());
-    println!("\n{} texts of {} families and of raw strings between hashes, {ROUNDS} rounds.", texts.len(), FAMILIES.len());
+    let count = texts.len();
+    println!("\n{count} texts of {} families and of raw strings between hashes, {ROUNDS} rounds.", FAMILIES.len());
     let (mut parsed, mut valued, mut logs) = (0, 0, [0.0; 2]);
     for text in &texts {
         assert_eq!(answer(ours::parse, text), answer(upstream::parse, text), "the parts or the place of {text}");
@@ -209,6 +210,6 @@ pub fn main() {
             println!("{parse:.2}, with the value {value:.2}: {} bytes, {front:?} ..", text.len());
         }
     }
-    let [parse, value] = logs.map(|sum| (sum / texts.len() as f64).exp());
+    let [parse, value] = logs.map(|sum| (sum / count as f64).exp());
     println!("Slower than upstream: {parsed}, with the value {valued}; geometric means {parse:.3} and {value:.3}");
 }

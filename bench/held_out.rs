@@ -28,7 +28,20 @@ const SWEEPS: &[Sweep] = &[
     ("Char", "underscores in an escape", Valued, &[0, 1, 8, 100], |_, len| {
         format!("'\\u{{1{}2}}'", "_".repeat(len))
     }),
+    ("Char", "refused: underscores in an escape", Refused, &[1, 8, 100, 1000, 20_000], |_, len| {
+        format!("'\\u{{1{}", "_".repeat(len))
+    }),
     ("", "refused: a long word", Refused, &[8, 40, 200], |_, len| format!("static_{}", "a".repeat(len - 7))),
+    ("String", "refused: only a quote", Refused, &[1], |_, _| "\"".to_string()),
+    ("String", "refused: text after", Refused, &[1, 60, 1025, 20_000], |n, len| {
+        format!("\"abc\" + {}", n.many(len, Numbers::plain))
+    }),
+    ("CString", "refused: no closing quote", Refused, &[1, 8, 20, 1025], |n, len| {
+        format!("c\"{}", n.many(len, Numbers::plain))
+    }),
+    ("CString", "refused: NUL after", Refused, &[0, 1, 8, 20], |n, len| {
+        format!("c\"{}\0\"", n.many(len, Numbers::plain))
+    }),
     ("String", "refused: \\n, text after", Refused, &[60, 300, 1025, 5000, 20_000], |n, len| {
         format!("\"ab\\nc\" + {}", n.many(len, Numbers::plain))
     }),
@@ -78,6 +91,9 @@ const SWEEPS: &[Sweep] = &[
         let before = n.below(1 + len as u64) as usize;
         format!("\"{}\\n{}\"", "a".repeat(before), "a".repeat(len - before))
     }),
+    ("String", "one escape, value of", Valued, &[127, 129, 150, 200, 1000, 4095, 5000], |n, len| {
+        format!("\"\\n{}\"", n.many(len - 1, Numbers::plain))
+    }),
     ("String", "escape each 2 bytes", Valued, &[20, 81, 200, 1000, 5000], |_, len| {
         format!("\"{}\"", "a\\n".repeat(len / 3))
     }),
@@ -102,6 +118,14 @@ const SWEEPS: &[Sweep] = &[
     ("String", "raw, hashes", Valued, &[0, 1, 2, 3, 8, 64, 128, 255], |_, count| {
         let hashes = "#".repeat(count);
         format!("r{hashes}\"a body\"{hashes}")
+    }),
+    ("String", "raw, hashes, no body", Valued, &[0, 1, 2, 3], |_, count| {
+        format!("r{0}\"\"{0}", "#".repeat(count))
+    }),
+    ("String", "raw, no body, suffix of", Valued, &[1, 4], |_, len| format!("r\"\"{}", "q".repeat(len))),
+    ("String", "raw under 255 hashes, quotes only", Valued, &[100, 1000], |_, len| {
+        let hashes = "#".repeat(255);
+        format!("r{hashes}\"{} \"{hashes}", "\"".repeat(len))
     }),
     ("String", "refused: hashes", Refused, &[256, 1000], |_, count| {
         let hashes = "#".repeat(count);
@@ -159,21 +183,23 @@ pub fn texts_named(name: &str) -> Vec<(usize, Vec<String>)> {
     SWEEPS[place].3.iter().map(|size| (*size, texts_of(place, *size))).collect()
 }
 
-/// Prints the table.
-pub fn main() {
-    println!("\nNanoseconds a text of other shapes, by the size after their name: up to {TEXTS} texts each.");
+/// A kind of literal, the name of a row, the expected result, and the texts.
+type Owned = (&'static str, String, Texts, Vec<String>);
+
+/// Returns the rows of the literals of sources. Prints which these are.
+fn rows_of_sources() -> Vec<Owned> {
     let mut rows = Vec::new();
-    for (place, (kind, name, shape, sizes, _)) in SWEEPS.iter().enumerate() {
-        for size in *sizes {
-            rows.push((*kind, format!("{name} {size}"), *shape, texts_of(place, *size)));
-        }
-    }
     for corpus in corpus::found() {
         println!("{}: {} literals in {} files of {}", corpus.name, corpus.literals.len(), corpus.files, corpus.folder);
         for (kind, name, shape, texts) in corpus.rows() {
             rows.push((kind, format!("{}: {name}", corpus.name), shape, texts));
         }
     }
+    rows
+}
+
+/// Prints the rows.
+fn print(rows: &[Owned]) {
     let rows: Vec<Row> = rows
         .iter()
         .map(|(kind, name, shape, texts)| (*kind, name.as_str(), *shape, texts.iter().map(String::as_str).collect()))
@@ -186,4 +212,23 @@ pub fn main() {
     if cfg!(upstream) {
         println!("\nSlower than upstream: {slower}");
     }
+}
+
+/// Prints the table of the literals of sources.
+pub fn sources() {
+    println!("\nNanoseconds a literal of sources.");
+    print(&rows_of_sources());
+}
+
+/// Prints the table of the sweeps and of the literals of sources.
+pub fn main() {
+    println!("\nNanoseconds a text of other shapes, by the size after their name: up to {TEXTS} texts each.");
+    let mut rows = Vec::new();
+    for (place, (kind, name, shape, sizes, _)) in SWEEPS.iter().enumerate() {
+        for size in *sizes {
+            rows.push((*kind, format!("{name} {size}"), *shape, texts_of(place, *size)));
+        }
+    }
+    rows.extend(rows_of_sources());
+    print(&rows);
 }
