@@ -8,9 +8,9 @@ a program. It does so twice, the second time over a changed copy. Each crate the
 file by file, with our line in crates.txt, our version and no broken link. There must be no other
 crate. So the copies are the crates that `rt ci` proved.
 
-The callers on all pages are proved over the libraries that `rt ci` left. They are modules of one
-crate, since a crate costs more than a caller. Each must name only the crates in the line of
-crates.txt that its page has for it.
+The callers on all pages, and the examples at the top of these libraries, are proved over the
+libraries that `rt ci` left. They are modules of one crate, since a crate costs more than a caller.
+A caller must name only the crates in the line of crates.txt that its page has for it.
 
 The lines of README are run too, in their order, starting without the folder. Its program, compiled
 there from copied sources, must print the output on the page. The line that runs a program here must
@@ -40,6 +40,8 @@ LEFT = {"out", "wrong", "must-fail"}
 # The first line of a caller.
 TACTICS = "#![tactic(auto)]\n"
 BLOCK = re.compile(r"^```(\w+)\n(.*?)^```$", re.M | re.S)
+# A block of Rust in the documentation of a crate.
+EXAMPLE = re.compile(r"^```(?:rust)?\n(.*?)^```$", re.M | re.S)
 README = (TOP / "README.md").read_text()
 VERSION = re.search(r"^## \[(\d\S*)\]", (TOP / "CHANGELOG.md").read_text(), re.M)[1]
 
@@ -122,6 +124,15 @@ def callers_of(page):
             path = next(it for it in reversed(spans) if it.endswith(".antt"))
             callers[-1].files[path] = block[2]
     return callers
+
+
+def examples_of(name):
+    """Yields the examples at the top of a crate's documentation, as callers of what they use."""
+    head = (TOP / "crates" / name / "src/lib.rt").read_text().split(TACTICS)[0]
+    page = "\n".join(re.sub("^//! ?", "", line) for line in head.splitlines())
+    for example in EXAMPLE.findall(page):
+        deps = sorted(set(re.findall(r"^use (litrs\w*)::", example, re.M)))
+        yield Caller(f"example_of_{name}: {' '.join(deps)}", {"src/lib.rt": example})
 
 
 def strangers(caller):
@@ -211,6 +222,7 @@ def main():
     libraries.stop_unless_built(names_of_copies() - {"litrs_c", "litrs_lines_cli"})
     pages = [(TOP / "crates" / it / "CALLING.md").read_text() for it in CALLED]
     callers = [it for page in pages for it in callers_of(page)]
+    callers += [it for name in CALLED for it in examples_of(name)]
     with tempfile.TemporaryDirectory(prefix="vendored-") as name:
         folder, room = pathlib.Path(name, "copies"), pathlib.Path(name, "yours")
         cases = vendor_cases.faults(pathlib.Path(name, "cases"))
