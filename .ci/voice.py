@@ -3,9 +3,10 @@
 pages.
 
 The summary of a function must begin with a verb in the third person, or with a link to the function
-that it is like. A comment of `src/`, `specs/` and `proofs/` must not begin with a word of
-`RIDDLES`, and must not have a construction of `FORBIDDEN`. A page must not be longer than `LENGTHS`
-allows. Prints each fault with its place, and the numbers of summaries and of pages.
+that it is like. Each public item, field and variant must have a comment. A comment of `src/`,
+`specs/` and `proofs/` must not begin with a word of `RIDDLES`, and must not have a construction of
+`FORBIDDEN`. A page must not be longer than `LENGTHS` allows. Prints each fault with its place, and
+the numbers of summaries and of pages.
 """
 import pathlib
 import re
@@ -14,6 +15,11 @@ import sys
 TOP = pathlib.Path(__file__).resolve().parent.parent
 FUNCTION = re.compile(r'\s*(?:pub(?:\(crate\))? )?(?:const |unsafe )*(?:extern "C" )?fn (\w+)')
 TYPE = re.compile(r"\s*pub (?:struct|enum|trait|type) (\w+)")
+# A public item or field, and a variant of a public enum.
+PUBLIC = re.compile(
+    r'\s*pub (?:const |unsafe )*(?:extern "C" )?(?:fn|struct|enum|trait|type|const|static) (\w+)'
+    r"|    pub (\w+): ")
+VARIANT = re.compile(r"    ([A-Z]\w*)(?:\(.*\))?(?:,| \{)$")
 # The start of a summary: a verb in the third person, or `Like [`f`]`.
 VERB = re.compile(r"(?:[A-Z][a-z]+s|Does not [a-z]+)\b|Like \[`")
 # Words that end like such a verb.
@@ -50,6 +56,8 @@ EXAMPLES = [
     ("/// The length.\n#[inline]\npub fn len(&self) -> usize", 1),
     ("/// Returns the digit that stands first.\nfn digit(text: &str) -> u8", 1),
     ("/// A literal.\npub struct Literal {", 0),
+    ("pub struct Place {\n    /// The start.\n    pub start: usize,\n    pub end: usize,\n}", 2),
+    ("/// A kind.\npub enum Kind {\n    /// A bool.\n    Bool,\n    Integer(u8),\n}", 1),
     ("-- The text is a literal.\nabbrev pub IsLiteral : List N", 0),
     ("-- What texts are none, and so many literals.\nabbrev pub IsLiteral : List N", 3),
 ]
@@ -80,10 +88,21 @@ def item_after(lines, number):
     return next((it for it in lines[number:] if not re.match(r"\s*(#\[|//(?!/))", it)), "")
 
 
+def undocumented(lines):
+    """Yields the line and the fault of each public item, field and variant without a comment."""
+    is_enum = False
+    for number, line in enumerate(lines):
+        is_enum = line.startswith("pub enum ") or is_enum and not line.startswith("}")
+        item = PUBLIC.match(line) or is_enum and VARIANT.match(line)
+        before = (it for it in reversed(lines[:number]) if not re.match(r"\s*(#\[|//(?!/))", it))
+        if item and not next(before, "").lstrip().startswith("///"):
+            yield number + 1, f"there is no comment on `{item[item.lastindex]}`"
+
+
 def faults_of(lines):
     """Returns the faults of a file, each with its line, and the kinds of the items that have a
     summary."""
-    faults, kinds = [], []
+    faults, kinds = list(undocumented(lines)), []
     for mark, start, end in comments(lines):
         text = prose(lines[start:end], mark)
         riddle = RIDDLES.match(text)

@@ -4,7 +4,7 @@ use Rattle.std.specs.Str.{IsCharBoundary, encode_utf8_all}
 use Rattle.std.specs.declared.ops.Range.{Range}
 use Rattle.litrs_base.specs.Text.{byte_len}
 
--- The place is a character boundary of the text: a character starts there, or the text ends.
+-- The place is a character boundary of the text iff a character starts there or the text ends.
 abbrev pub IsBoundaryOf : List ℕ → ℕ → Type 0
 IsBoundaryOf t place = IsCharBoundary (encode_utf8_all t) place
 

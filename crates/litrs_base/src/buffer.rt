@@ -8,6 +8,7 @@ use std::borrow::{CowSlice, CowStr};
 use std::ops::Range;
 
 mod sealed {
+    /// A trait that other crates cannot implement.
     pub trait Sealed {}
 }
 

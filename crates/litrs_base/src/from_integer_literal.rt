@@ -9,6 +9,7 @@ ghost use Rattle.litrs_base.specs.Numeral.{greatest_of, IsNumberOf};
 use crate::integer::IntegerType;
 
 mod sealed {
+    /// A trait that other crates cannot implement.
     pub trait Sealed {}
 }
 

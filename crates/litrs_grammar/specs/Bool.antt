@@ -9,7 +9,7 @@ abbrev pub bool_text : Bool → List ℕ
 bool_text false = codes "false"
 bool_text true = codes "true"
 
--- `t` is the bool `b`.
+-- `t` is the bool `b` iff it is the text of `b`.
 abbrev pub IsBool : List ℕ → Bool → Type 0
 IsBool t b = bool_text b ≡ t
 

@@ -54,7 +54,8 @@ pub record CharParts : Type 0 where
 abbrev pub char_text : CharKind → CharParts → List ℕ
 char_text kind d = char_front kind ++ (char_item_text d.item ++ single_quote ∷ d.suffix)
 
--- `t` is a literal of the kind with the parts `d`.
+-- `t` is a literal of the kind with the parts `d` iff they spell `t`, the item is one of the kind,
+-- and the suffix is a suffix.
 pub record IsCharLiteral (kind : CharKind) (t : List ℕ) (d : CharParts) : Type 0 where
   pub spells : char_text kind d ≡ t
   pub item : IsTrue (is_char_item kind d.item)

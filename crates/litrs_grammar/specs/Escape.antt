@@ -86,7 +86,7 @@ is_escape w (unicode_escape inner) =
     && nat_le (count_by is_ascii_hexdigit inner) 6
     && allows_value w (hex_value inner) && is_scalar (hex_value inner)
 
--- `e` is an escape under the switches `w`.
+-- `e` is an escape iff the switches `w` allow it.
 abbrev pub IsEscape : Switches → Escape → Type 0
 IsEscape w e = IsTrue (is_escape w e)
 

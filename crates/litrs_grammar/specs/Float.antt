@@ -73,8 +73,9 @@ is_float_form (Some (c ∷ cs)) exponent suffix =
     is_decimal_literal (c ∷ cs) && (is_empty exponent || is_exponent exponent)
 is_float_form None exponent suffix = is_exponent exponent
 
--- `d` are the parts of a float. The suffix does not start with `_`. It starts with `e` or `E` only
--- after an exponent.
+-- `d` are the parts of a float iff they have one of these forms after an integer part, and the
+-- suffix is a suffix. It does not start with `_`, and it starts with `e` or `E` only after an
+-- exponent.
 pub record IsFloat (d : FloatParts) : Type 0 where
   pub integer : IsTrue (is_decimal_literal d.integer)
   pub form : IsTrue (is_float_form d.fraction d.exponent d.suffix)
@@ -82,7 +83,7 @@ pub record IsFloat (d : FloatParts) : Type 0 where
   pub no_underscore : IsFalse (first_passes is_underscore d.suffix)
   pub no_letter : IsTrue (is_empty d.exponent) → IsFalse (first_passes is_e d.suffix)
 
--- `t` is a float with the parts `d`.
+-- `t` is a float with the parts `d` iff they spell `t` and are those of a float.
 pub record IsFloatOf (t : List ℕ) (d : FloatParts) : Type 0 where
   pub spells : float_text d ≡ t
   pub grammar : IsFloat d

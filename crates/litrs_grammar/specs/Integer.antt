@@ -34,9 +34,9 @@ has_prefix t =
     begins_with (prefix Binary) t || begins_with (prefix Octal) t
     || begins_with (prefix Hexadecimal) t
 
--- The main part has digits of the base and underscores, with at least one digit, and takes all of
--- them that follow. The suffix does not start with `e` or `E`. A decimal integer starts with a
--- digit, and not with the prefix of another base.
+-- `d` are the parts of an integer iff the main part has digits of the base and underscores, with at
+-- least one digit, and takes all of them that follow. The suffix is a suffix that does not start
+-- with `e` or `E`. A decimal integer starts with a digit, and not with the prefix of another base.
 pub record IsInteger (d : IntegerParts) : Type 0 where
   pub digits : IsTrue (list_all (is_digit_or_underscore d.base) d.main)
   pub some_digit : IsTrue (list_any (is_digit d.base) d.main)
@@ -46,7 +46,7 @@ pub record IsInteger (d : IntegerParts) : Type 0 where
   pub decimal_digit : d.base ≡ Decimal → IsTrue (first_passes is_ascii_digit d.main)
   pub decimal_prefix : d.base ≡ Decimal → IsFalse (has_prefix (integer_text d))
 
--- `t` is an integer with the parts `d`.
+-- `t` is an integer with the parts `d` iff they spell `t` and are those of an integer.
 pub record IsIntegerOf (t : List ℕ) (d : IntegerParts) : Type 0 where
   pub spells : integer_text d ≡ t
   pub grammar : IsInteger d

@@ -16,7 +16,8 @@ pub data StringParts : Type 0 where
   quoted_parts : QuotedParts → StringParts
   raw_parts : RawParts → StringParts
 
--- The text is a string of the kind with these parts.
+-- The text is a string of the kind with these parts iff it is a quoted or a raw literal of the kind
+-- with them.
 abbrev pub IsString : StringKind → List ℕ → StringParts → Type 0
 IsString kind t (quoted_parts d) = IsQuotedLiteral kind t d
 IsString kind t (raw_parts d) = IsRawLiteral kind t d
@@ -42,7 +43,7 @@ pub data Derivation : Type 0 where
   a_byte_string : StringParts → Derivation
   a_c_string : StringParts → Derivation
 
--- `d` is a derivation of `t`: the text is a literal of this kind with these parts.
+-- `d` is a derivation of `t` iff the text is a literal of the kind of `d` with its parts.
 abbrev pub IsLiteral : List ℕ → Derivation → Type 0
 IsLiteral t (a_bool b) = IsBool t b
 IsLiteral t (an_integer d) = IsIntegerOf t d
@@ -97,11 +98,12 @@ pub data Parse : Type 0 where
   literal_parse : Parse
   kind_parse : LiteralKind → Parse
 
--- `d` is a derivation of `t` that the parse accepts.
+-- `d` is a derivation of `t` that the parse accepts iff it is a derivation of `t`, and of the kind
+-- of the parse if that is for one kind.
 abbrev pub IsLiteralOf : Parse → List ℕ → Derivation → Type 0
 IsLiteralOf literal_parse t d = IsLiteral t d
 IsLiteralOf (kind_parse kind) t d = (literal_kind d ≡ kind) × IsLiteral t d
 
--- `t` begins a literal of the parse: `t` followed by some text, which may be empty, is one.
+-- `t` begins a literal of the parse iff `t` followed by some text, which may be empty, is one.
 abbrev pub Begins : Parse → List ℕ → Type 0
 Begins parse t = BeginsBy (IsLiteralOf parse) t

@@ -53,8 +53,7 @@ IsRefusalOfStart kind raw_start t e = raw_literal_refusal kind t ≡ Some e
 abbrev pub IsStringRefusal : StringKind → List ℕ → Refusal → Type 0
 IsStringRefusal kind t = IsRefusalOfStart kind (string_start kind t) t
 
--- Each kind by its own table
-
+-- `e` is the refusal of `t` as a literal of the kind iff the table of the kind gives it.
 abbrev pub IsKindRefusal : LiteralKind → List ℕ → Refusal → Type 0
 IsKindRefusal bool_literal t e = bool_refusal t ≡ Some e
 IsKindRefusal integer_literal t e = integer_refusal t ≡ Some e
@@ -102,7 +101,8 @@ abbrev pub IsRefusalOfDispatch : Dispatch → List ℕ → Refusal → Type 0
 IsRefusalOfDispatch (refused_as refusal) t e = refusal ≡ e
 IsRefusalOfDispatch (parsed_as kind) t e = IsKindRefusal kind t e
 
--- `e` is the refusal of `t` by the parse.
+-- `e` is the refusal of `t` by the parse iff its kind gives it, or, if the parse is of any kind, the
+-- dispatch of `t`.
 abbrev pub IsRefusal : Parse → List ℕ → Refusal → Type 0
 IsRefusal literal_parse t e = IsRefusalOfDispatch (dispatch t) t e
 IsRefusal (kind_parse kind) t e = IsKindRefusal kind t e

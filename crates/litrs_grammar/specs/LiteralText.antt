@@ -30,17 +30,19 @@ literal_text (a_string d) = string_text string_kind d
 literal_text (a_byte_string d) = string_text byte_string_kind d
 literal_text (a_c_string d) = string_text c_string_kind d
 
--- The parts are those of a char or a byte.
+-- The parts are those of a char or a byte iff the item is one of the kind and the suffix is a
+-- suffix.
 abbrev pub AreCharParts : CharKind → CharParts → Type 0
 AreCharParts kind d = IsTrue (is_char_item kind d.item) × IsTrue (is_suffix d.suffix)
 
--- The parts are those of a string of the kind.
+-- The parts are those of a string of the kind iff the body is one of the kind and the suffix is a
+-- suffix.
 abbrev pub AreStringParts : StringKind → StringParts → Type 0
 AreStringParts kind (quoted_parts d) =
     IsTrue (is_body (switches_of kind) d.items) × IsTrue (is_suffix d.suffix)
 AreStringParts kind (raw_parts d) = IsRaw (has_unicode kind) (allows_nul kind) d
 
--- The parts are those of a literal of their kind.
+-- The parts are those of a literal of their kind iff the grammar of the kind has them.
 abbrev pub AreParts : Derivation → Type 0
 AreParts (a_bool b) = Unit {0}
 AreParts (an_integer d) = IsInteger d

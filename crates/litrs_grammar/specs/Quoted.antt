@@ -67,7 +67,7 @@ is_body w [] = true
 is_body w (item ∷ items) =
     is_item w item && takes_all_blanks item (body_text items) && is_body w items
 
--- `t` is the text of a body with these items.
+-- `t` is the text of a body with these items iff they spell `t` and are a body under the switches.
 pub record IsBodyOf (w : Switches) (t : List ℕ) (items : List Item) : Type 0 where
   pub spells : body_text items ≡ t
   pub body : IsTrue (is_body w items)
@@ -81,13 +81,15 @@ pub record QuotedParts : Type 0 where
 abbrev pub quoted_text : List ℕ → QuotedParts → List ℕ
 quoted_text front q = front ++ (body_text q.items ++ double_quote ∷ q.suffix)
 
--- `t` is a quoted literal with the parts `q` after `front`, under the switches `w`.
+-- `t` is a quoted literal with the parts `q` after `front` iff they spell `t`, the items are a body
+-- under the switches `w`, and the suffix is a suffix.
 pub record IsQuoted (front : List ℕ) (w : Switches) (t : List ℕ) (q : QuotedParts) : Type 0 where
   pub spells : quoted_text front q ≡ t
   pub body : IsTrue (is_body w q.items)
   pub suffix : IsTrue (is_suffix q.suffix)
 
--- The text is a quoted literal of the kind with these parts.
+-- The text is a quoted literal of the kind with these parts iff it is one after the front of the
+-- kind, under its switches.
 abbrev pub IsQuotedLiteral : StringKind → List ℕ → QuotedParts → Type 0
 IsQuotedLiteral kind = IsQuoted (quoted_front kind) (switches_of kind)
 
@@ -136,8 +138,8 @@ item_refusal w (c ∷ t) =
     else if (c == double_quote) && not (is_suffix t) then Some (at_byte 1 (suffix_kind t))
     else None
 
--- `t` is refused as a quoted literal after `front`, as the rest decides. The span moves by the
--- length in bytes of the text before the rest.
+-- `t` is refused as a quoted literal after `front` iff the rest after some items is refused. The
+-- span moves by the length in bytes of the text before the rest.
 pub record IsQuotedRefusal (front : List ℕ) (w : Switches) (t : List ℕ) (e : Refusal) : Type 0 where
   pub items : List Item
   pub rest : List ℕ
@@ -147,6 +149,7 @@ pub record IsQuotedRefusal (front : List ℕ) (w : Switches) (t : List ℕ) (e :
   pub decided : item_refusal w rest ≡ Some cause
   pub placed : shifted (byte_len (front ++ body_text items)) cause ≡ e
 
--- The text is refused as a quoted literal of the kind.
+-- The text is refused as a quoted literal of the kind iff it is refused after the front of the
+-- kind, under its switches.
 abbrev pub IsQuotedLiteralRefusal : StringKind → List ℕ → Refusal → Type 0
 IsQuotedLiteralRefusal kind = IsQuotedRefusal (quoted_front kind) (switches_of kind)

@@ -44,8 +44,8 @@ abbrev pub is_raw_char : (unicode allow_nul : Bool) → ℕ → Bool
 is_raw_char unicode allow_nul c =
     not (c == carriage_return) && (fits_charset unicode c && nul_is_allowed allow_nul c)
 
--- `body` is a raw body between `n` hashes: its characters are allowed, and it does not contain the
--- closing.
+-- `body` is a raw body between `n` hashes iff its characters are allowed and it does not contain
+-- the closing.
 pub record IsRawBody (unicode allow_nul : Bool) (n : ℕ) (body : List ℕ) : Type 0 where
   pub allowed : IsTrue (list_all (is_raw_char unicode allow_nul) body)
   pub unclosed : IsFalse (occurs (raw_closing n) body)
@@ -65,13 +65,15 @@ abbrev pub raw_text : RawParts → List ℕ
 raw_text d =
     hashes d.hash_count ++ (double_quote ∷ (d.body ++ (raw_closing d.hash_count ++ d.suffix)))
 
--- `d` are the parts of a raw literal, which has at most 255 hashes.
+-- `d` are the parts of a raw literal iff there are at most 255 hashes, the body is one between
+-- them, and the suffix is a suffix.
 pub record IsRaw (unicode allow_nul : Bool) (d : RawParts) : Type 0 where
   pub hash_count : d.hash_count ≤ 255
   pub body : IsRawBody unicode allow_nul d.hash_count d.body
   pub suffix : IsTrue (is_suffix d.suffix)
 
--- `t`, which follows the front, completes a raw literal with the parts `d`.
+-- `t`, which follows the front, completes a raw literal with the parts `d` iff they spell `t` and
+-- are those of a raw literal.
 pub record IsRawOf (unicode allow_nul : Bool) (t : List ℕ) (d : RawParts) : Type 0 where
   pub spells : raw_text d ≡ t
   pub grammar : IsRaw unicode allow_nul d
@@ -83,7 +85,8 @@ has_unicode kind = (switches_of kind).unicode
 abbrev pub allows_nul : StringKind → Bool
 allows_nul kind = (switches_of kind).allow_nul
 
--- `t` is a raw literal of the kind with the parts `d`.
+-- `t` is a raw literal of the kind with the parts `d` iff these spell `t` after the front, and are
+-- those of a raw literal of the kind.
 pub record IsRawLiteral (kind : StringKind) (t : List ℕ) (d : RawParts) : Type 0 where
   pub spells : raw_front kind ++ raw_text d ≡ t
   pub grammar : IsRaw (has_unicode kind) (allows_nul kind) d

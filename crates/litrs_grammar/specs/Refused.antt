@@ -49,11 +49,12 @@ pub record IsOutOfMemory (parse : Parse) (t : List ℕ) (e : ParseError) : Type 
   pub takes : IsTrue (takes_memory derivation)
   pub error : refusal_of e ≡ without_span OutOfMemory
 
--- The error of a parse that may allocate.
+-- `e` is the error of a parse that may allocate iff `t` is refused with it, or the allocation of
+-- its value failed.
 abbrev pub IsRefusedOrOutOfMemory : Parse → List ℕ → ParseError → Type 0
 IsRefusedOrOutOfMemory parse t e = IsRefused parse t e ⊎ IsOutOfMemory parse t e
 
--- The text is a literal whose value is allocated and takes memory, so its parse may run out of
--- memory.
+-- The parse of a text may run out of memory iff the text is a literal whose value is allocated and
+-- takes memory.
 abbrev pub MayLackMemory : List ℕ → Type 0
 MayLackMemory t = (e : ParseError) × IsOutOfMemory literal_parse t e

@@ -21,6 +21,7 @@ use litrs::{CString, FloatType, IntegerType, Literal};
 use std::alloc::Global;
 
 mod sealed {
+    /// A trait that other crates cannot implement.
     pub trait Sealed {}
 }
 

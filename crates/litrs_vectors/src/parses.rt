@@ -8,14 +8,23 @@ use std::alloc::Global;
 /// A parse of one kind, or of all.
 #[derive(Clone, Copy, Drop)]
 pub enum Parse {
+    /// `Literal::parse`.
     Literal,
+    /// `BoolLit::parse`.
     Bool,
+    /// `IntegerLit::parse`.
     Integer,
+    /// `FloatLit::parse`.
     Float,
+    /// `CharLit::parse`.
     Char,
+    /// `StringLit::parse`.
     String,
+    /// `ByteLit::parse`.
     Byte,
+    /// `ByteStringLit::parse`.
     ByteString,
+    /// `CStringLit::parse`.
     CString,
 }
 

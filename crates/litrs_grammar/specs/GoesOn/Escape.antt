@@ -8,7 +8,7 @@ use Rattle.litrs_base.specs.Text.{is_empty, first_passes}
 use Rattle.litrs_base.specs.declared.quotes.Switches.{Switches}
 use Rattle.litrs_grammar.specs.Escape.{Escape, unicode_escape, escape_text, is_escape, IsEscape, allows_byte, pair_value, is_hex_or_underscore}
 
--- `t` begins an escape: `t` followed by some text, which may be empty, is one.
+-- `t` begins an escape iff `t` followed by some text, which may be empty, is one.
 abbrev pub BeginsEscape : Switches → List ℕ → Type 0
 BeginsEscape w t = (e : Escape) × (more : List ℕ) × (t ++ more ≡ escape_text e) × IsEscape w e
 

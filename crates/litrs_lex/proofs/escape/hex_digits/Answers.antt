@@ -36,44 +36,45 @@ loop-len-preserved c =
     let i = c.loop-len.len in
     let b = get_or t i 0 in
     elim c.if-byte-ne95.branch [
-      then-byte-ne95+in-Some w ↦
-        let hex = w.in-Some.ensures.0 in
-        let digit = digit_small b hex in
-        let is = w.in-Some.ensures.1 in
-        let wide = w.from.ensures in
-        let few = w.if-count-lt6.true in
-        let is-count = w.count-is in
-        let is-value = w.value-is in
-        let small = c.loop-len.invariant.small in
-        let value = c.loop-len.invariant.value in
-        let power : 16 ^ c.if-byte-ne95.count ≡ 16 ^ c.loop-len.count * 16 =
-            ap (λ n. 16 ^ n) is-count ∙ pow_more 16 c.loop-len.count in
-        let all = c.loop-len.invariant.count in
-        record {
-          within = omega arith;
-          passes = all_more is_hex_or_underscore t i c.loop-len-test.true c.loop-len.invariant.passes (or_left _ _ hex);
-          count = (let one : cond {A = ℕ} (is_ascii_hexdigit b) 1 0 ≡ 1 = ap (λ v. cond {A = ℕ} v 1 0) hex in
-              let more = count_one is_ascii_hexdigit t i c.loop-len-test.true in omega arith);
-          few = omega arith;
-          value = (let more = numeral_digit 16 t i c.loop-len-test.true (digit_no_underscore b hex) in omega arith);
-          small = omega arith;
-        }
-    | else-byte-ne95 w ↦
-        let is-count = w.count-is in
-        let is-value = w.value-is in
-        let more = underscore_more t i c.loop-len-test.true w.if-byte-ne95.false c.loop-len.invariant.passes in
-        let longer = more.1 in
-        let number = more.2 in
-        let count = c.loop-len.invariant.count in
-        let few = c.loop-len.invariant.few in
-        let value = c.loop-len.invariant.value in
-        let small = c.loop-len.invariant.small in
-        let power : 16 ^ c.if-byte-ne95.count ≡ 16 ^ c.loop-len.count = ap (λ n. 16 ^ n) is-count in
-        record {
-          within = omega arith;
-          passes = more.0;
-          count = omega arith;
-          few = omega arith;
-          value = omega arith;
-          small = omega arith;
-        } ]
+      | then-byte-ne95+in-Some w ↦
+          let hex = w.in-Some.ensures.0 in
+          let digit = digit_small b hex in
+          let is = w.in-Some.ensures.1 in
+          let wide = w.from.ensures in
+          let few = w.if-count-lt6.true in
+          let is-count = w.count-is in
+          let is-value = w.value-is in
+          let small = c.loop-len.invariant.small in
+          let value = c.loop-len.invariant.value in
+          let power : 16 ^ c.if-byte-ne95.count ≡ 16 ^ c.loop-len.count * 16 =
+          ap (λ n. 16 ^ n) is-count ∙ pow_more 16 c.loop-len.count in
+          let all = c.loop-len.invariant.count in
+          record {
+            within = omega arith;
+            passes = all_more is_hex_or_underscore t i c.loop-len-test.true c.loop-len.invariant.passes (or_left _ _ hex);
+            count = (let one : cond {A = ℕ} (is_ascii_hexdigit b) 1 0 ≡ 1 = ap (λ v. cond {A = ℕ} v 1 0) hex in
+                let more = count_one is_ascii_hexdigit t i c.loop-len-test.true in omega arith);
+            few = omega arith;
+            value = (let more = numeral_digit 16 t i c.loop-len-test.true (digit_no_underscore b hex) in omega arith);
+            small = omega arith;
+          }
+      | else-byte-ne95 w ↦
+          let is-count = w.count-is in
+          let is-value = w.value-is in
+          let more = underscore_more t i c.loop-len-test.true w.if-byte-ne95.false c.loop-len.invariant.passes in
+          let longer = more.1 in
+          let number = more.2 in
+          let count = c.loop-len.invariant.count in
+          let few = c.loop-len.invariant.few in
+          let value = c.loop-len.invariant.value in
+          let small = c.loop-len.invariant.small in
+          let power : 16 ^ c.if-byte-ne95.count ≡ 16 ^ c.loop-len.count = ap (λ n. 16 ^ n) is-count in
+          record {
+            within = omega arith;
+            passes = more.0;
+            count = omega arith;
+            few = omega arith;
+            value = omega arith;
+            small = omega arith;
+          }
+    ]
