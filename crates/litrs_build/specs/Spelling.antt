@@ -17,7 +17,7 @@ use Rattle.litrs_build.specs.declared.style.Case.TheVariants.{Lower, Upper}
 abbrev pub is_combining : ℕ → Bool
 is_combining c = is_grapheme_extend c
 
--- `true` iff the character is written as it is: it is printable, and is not a combining character
+-- `true` iff the character is written as it is. It is printable, and is not a combining character
 -- after the opening quote, an escape, a kept LF or a kept continuation.
 abbrev pub is_shown : (follows_mark : Bool) → ℕ → Bool
 is_shown follows_mark c = is_printable c && not (follows_mark && is_combining c)

@@ -31,7 +31,7 @@ abbrev pub IsLeft : Comments → Option Token → (rest left : List ℕ) → Typ
 IsLeft comments None rest left = left ≡ rest
 IsLeft comments (Some token) rest left = SkipsComment comments token.text.now rest left
 
--- A step from the text before a token to the text that is left after it: slashes are skipped, then
+-- A step from the text before a token to the text that is left after it. Slashes are skipped, then
 -- the token is that of Rust, then a comment that it begins is skipped.
 abbrev pub FindsToken :
     Comments → (source text : List ℕ) → Option Token → (left : List ℕ) → Type 0

@@ -81,8 +81,8 @@ line_doc (c ∷ t) =
     else if (c == slash) && not (first_passes is_slash t) then Some Outer
     else None
 
--- The documentation that a block comment is, by its text after `/*`: inner if that starts with `!`,
--- and outer if it starts with `*`, but neither with `**` nor with `*/`.
+-- The documentation that a block comment is, by its text after `/*`. It is inner if that starts
+-- with `!`, and outer if that starts with `*`, but neither with `**` nor with `*/`.
 abbrev pub block_doc : List ℕ → Option DocStyle
 block_doc [] = None
 block_doc (c ∷ t) =

@@ -23,8 +23,8 @@ IsRawLifetime t rest =
     (name : List ℕ) × (t ≡ single_quote ∷ letter_r ∷ hash ∷ name) × IsTrue (begins_name name)
     × (rest ≡ after_name name)
 
--- A reserved prefix that is a lifetime is at the front of the text, up to the rest: `'` and the
--- whole name, directly before `#`, where they do not begin a raw lifetime.
+-- A reserved prefix that is a lifetime is at the front of the text, up to the rest. It is `'` and
+-- the whole name, directly before `#`, and does not begin a raw lifetime.
 abbrev pub IsUnknownPrefixLifetime : (t rest : List ℕ) → Type 0
 IsUnknownPrefixLifetime t rest =
     (name : List ℕ) × (t ≡ single_quote ∷ name) × IsTrue (begins_name name)

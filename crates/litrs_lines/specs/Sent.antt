@@ -47,9 +47,8 @@ SendsSome (Err _) old unwritten_old new unwritten_new left_new Adds =
     (left : List ℕ) × (out : List ℕ) × Adds left out
     × AppendsBeginning old new (unwritten_old ++ out)
 
--- The effect of a step, in terms of the ghost members of the output: `Adds` holds for the lines
--- that are held after it and the bytes that it added or began to write, and its result names a
--- failure.
+-- The effect of a step, in terms of the ghost members of the output. `Adds` holds for the lines
+-- that are held after it and the bytes that it added or began to write. Its result names a failure.
 pub record Leaves {O : Type 0} (contents : O → Option (List ℕ)) (has_failed write_failed : O → Bool)
     (result : Result (Unit {0}) RunError) (old new : Reporter O)
     (Adds : (left out : List ℕ) → Type 0) : Type 0 where

@@ -23,8 +23,8 @@ abbrev pub AppendsBeginningOfReports : (old new : Option (List ℕ)) (bytes : Li
 AppendsBeginningOfReports old new bytes =
     (out : List ℕ) × AreGroupReports (lines_of bytes) out × AppendsBeginning old new out
 
--- The bytes that were written are a prefix of the reports on the groups of the whole lines that
--- were taken, and of those on the groups of all lines of a known input.
+-- The bytes that were written begin the reports on the groups of the whole lines that were taken.
+-- They also begin those on the groups of all lines of a known input.
 pub record StopsWithin (left_old left_new contents_old contents_new : Option (List ℕ))
     : Type 0 where
   pub taken : List ℕ

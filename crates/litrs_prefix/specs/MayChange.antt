@@ -53,7 +53,7 @@ abbrev pub is_open_prefix : List ℕ → Bool
 is_open_prefix [] = true
 is_open_prefix (c ∷ t) = (c == letter_r) && is_empty (after_hashes t)
 
--- The text is `'`, alone or with a name, after which `'` begins a char, valid or malformed; or it
+-- The text is `'`, alone or with a name, after which `'` begins a char, valid or malformed. Or it
 -- is the front of a literal with a prefix up to its hashes, which a quote opens.
 abbrev pub is_open_front : List ℕ → Bool
 is_open_front [] = false

@@ -97,9 +97,10 @@ after_body (c ∷ t) =
 abbrev pub after_opened : List ℕ → List ℕ
 after_opened t = after_name (after_body t)
 
--- For a prefix `front` of `t`: it is a piece, that is the text before `after_opened t`, or a longer
--- text, if that one and all texts between the two are literals. If no literal is valid at the front
--- of `t`, its malformed prefix is the prefix of `t` that is a piece but not a literal.
+-- A prefix `front` of `t` is a piece if it is the text before `after_opened t`. A longer one is
+-- also a piece if that one and all texts between the two are literals. No other prefix is. If no
+-- literal is valid at the front of `t`, its malformed prefix is the prefix of `t` that is a piece
+-- but not a literal.
 pub record IsPiece (t front : List ℕ) : Type 0 where
   pub piece : List ℕ
   pub more : List ℕ

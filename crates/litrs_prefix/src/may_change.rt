@@ -15,7 +15,7 @@ use litrs_base::split_first_char;
 /// can act on it; otherwise the reader asks for more text. The call does not allocate.
 ///
 /// It is `true` for the empty text, `12`, `tru`, `1.`, `0x1.`, `"a`, `'a`, `'ab`, `r#`, `0b12` and
-/// `"\q`, and `false` for `12 `, `1..`, `foo`, `'ab,`, `r#a`, `0b12 ` and `"\q";`.
+/// `"\q`. It is `false` for `12 `, `1..`, `foo`, `'ab,`, `r#a`, `0b12 ` and `"\q";`.
 pub fn prefix_may_change(text: &str) -> bool
     ensures stays { IsFalse result → AnswerStays (chars text.now) }
     ensures changes { IsTrue result → AnswerChanges (chars text.now) }
