@@ -41,7 +41,6 @@ loop-len-preserved c =
           let digit = digit_small b hex in
           let is = w.in-Some.ensures.1 in
           let wide = w.from.ensures in
-          let few = w.if-count-lt6.true in
           let is-count = w.count-is in
           let is-value = w.value-is in
           let small = c.loop-len.invariant.small in
