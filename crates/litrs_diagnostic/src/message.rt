@@ -40,8 +40,8 @@ pub struct Diagnostic<'a> {
     pub first_column: u32,
     /// The message on the range.
     pub message: &'a str,
-    /// The greatest number of columns of a line that are shown. Its number, and the `...` in place of
-    /// the rest, do not count. rustc uses 140 if it does not know the width of its terminal.
+    /// The greatest number of columns of a line that are shown. Its number, and the `...` in place
+    /// of the rest, do not count. rustc uses 140 if it does not know the width of its terminal.
     pub width: usize,
     /// The label after the marks of the range, or an empty text.
     pub label: &'a str,

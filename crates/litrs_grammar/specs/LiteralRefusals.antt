@@ -101,8 +101,8 @@ abbrev pub IsRefusalOfDispatch : Dispatch → List ℕ → Refusal → Type 0
 IsRefusalOfDispatch (refused_as refusal) t e = refusal ≡ e
 IsRefusalOfDispatch (parsed_as kind) t e = IsKindRefusal kind t e
 
--- `e` is the refusal of `t` by the parse iff its kind gives it, or, if the parse is of any kind, the
--- dispatch of `t`.
+-- `e` is the refusal of `t` by the parse iff its kind gives it, or, if the parse is of any kind,
+-- the dispatch of `t`.
 abbrev pub IsRefusal : Parse → List ℕ → Refusal → Type 0
 IsRefusal literal_parse t e = IsRefusalOfDispatch (dispatch t) t e
 IsRefusal (kind_parse kind) t e = IsKindRefusal kind t e
