@@ -1,7 +1,6 @@
 //! Times `parse` over families of texts: a front, a part of some length, and a back, for every
-//! front, back and length of a list. Prints the texts that take longer than upstream.
-//!
-//! They are not chosen by what the code does, so they show whether a shape was forgotten.
+//! front, back and length of a list. Prints the texts that take longer than upstream. They show
+//! whether the table of shapes lacks one.
 
 use crate::{CALLS, ROUNDS, Times, answer, ours, time, upstream};
 
