@@ -4,10 +4,14 @@ pub mod TextLines
 pub mod LineStarts
 -- the first and the last line in bytes
 pub mod ByteLines
--- texts that are written in turn
-pub mod Encodes
 -- the width of a character that is shown
 pub mod Widths
+-- printable ASCII is shown as it is
+pub mod PlainText
+-- texts that are written in turn
+pub mod Encodes
+-- runs of a character
+pub mod Glyphs
 -- as many characters as are shown in a width
 pub mod Within
 -- texts that are shown whole

@@ -49,7 +49,7 @@ abbrev pub ArePlain : List ℕ → Type 0
 ArePlain [] = Unit {0}
 ArePlain (c ∷ cs) = IsPlain c × ArePlain cs
 
-plain_column : (c : ℕ) → IsPlain c → char_columns c ≡ 1
+pub plain_column : (c : ℕ) → IsPlain c → char_columns c ≡ 1
 unfolding char_width
 plain_column c h = rw (lt-ltb c 127 h.1) (rw (le-leb 32 c h.0) refl)
 

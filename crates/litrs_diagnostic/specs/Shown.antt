@@ -1,9 +1,11 @@
 -- Texts as they are shown, and their widths.
-use Rattle.std.specs.Prelude.{ℕ, ◌==◌, List, [], ◌∷◌, unwrap_or, false, replicate, if◌then◌else◌}
+use Rattle.std.specs.Prelude.{ℕ, Bool, nat_le, ◌==◌, ◌&&◌, List, [], ◌∷◌, unwrap_or, false, replicate, if◌then◌else◌}
 use Rattle.std.specs.List.{flat_map, sum_by}
 use Rattle.std.specs.Char.Escape.{escape_unicode}
 use Rattle.unicode_width.specs.Width.{char_width}
 use Rattle.litrs_diagnostic.specs.Printable.{is_printable}
+use Rattle.litrs_diagnostic.specs.declared.marks.Glyph.{Glyph}
+use Rattle.litrs_diagnostic.specs.declared.marks.Glyph.TheVariants.{Space, Caret, Dash}
 
 -- A space, a tab, a caret and a dash.
 abbrev pub blank : ℕ
@@ -17,6 +19,16 @@ caret = 94
 
 abbrev pub dash : ℕ
 dash = 45
+
+-- The character that is written once for each column.
+abbrev pub glyph_char : Glyph → ℕ
+glyph_char Space = blank
+glyph_char Caret = caret
+glyph_char Dash = dash
+
+-- `true` iff the character is printable ASCII: from the space to `~`.
+abbrev pub is_plain : ℕ → Bool
+is_plain c = nat_le 32 c && nat_le c 126
 
 -- A tab is shown as four blanks, and a character that is not printable as `\u{..}`.
 unfoldable pub shown_char : ℕ → List ℕ

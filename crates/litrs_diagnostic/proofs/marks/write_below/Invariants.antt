@@ -1,12 +1,14 @@
--- So many marks as the characters so far are columns wide.
-use Rattle.std.proofs.Common.{replicate}
+-- As many marks as the characters so far are columns wide.
+use Rattle.std.proofs.Common.{◌≡◌, ◌++◌, ℕ, List, length, replicate}
 use Rattle.std.specs.Fmt.{HasWritten, IsPlainFormatter}
-use Rattle.std.specs.Str.{encode_utf8_all}
-use Rattle.litrs_diagnostic.specs.Shown.{columns, shown}
+use Rattle.std.specs.Str.{chars, encode_utf8_all, IsUtf8}
+use Rattle.litrs_diagnostic.specs.Shown.{columns, glyph_char, shown}
 use Rattle.litrs_diagnostic.proofs.marks.write_below.Given as goal
 
 abbrev pub invariant-loop-c : goal.invariant-loop-c
-invariant-loop-c g l =
-    IsPlainFormatter l.initial.f →
-    HasWritten g.W.Write.write_str_gives l.initial.f
-    (encode_utf8_all (replicate (columns (shown l.yielded)) l.mark)) l.f
+invariant-loop-c g l = (done : List ℕ) × (chars l.fn.text ≡ done ++ chars l.rest) × IsUtf8 l.rest
+    × (IsPlainFormatter l.fn.f → HasWritten g.W.Write.write_str_gives l.fn.f
+    (encode_utf8_all (replicate (columns (shown done)) (glyph_char l.fn.glyph))) l.f)
+
+abbrev pub decreases-loop-c : goal.decreases-loop-c
+decreases-loop-c g l = length l.rest
