@@ -1,6 +1,7 @@
 -- Rows, and the bytes of rows that are written in turn.
-use Rattle.std.proofs.Common.{◌≡◌, ◌<◌, ◌+◌, ℕ, Bool, true, false, List, [], ◌∷◌, ◌++◌, Option, None, Some, length, get_or, take, map, filter, fold, max, nat_lt, refl, sym, ap, ◌∙◌, append_assoc, append-nil}
+use Rattle.std.proofs.Common.{◌≡◌, ◌<◌, ◌≤◌, ◌+◌, ℕ, Bool, true, false, List, [], ◌∷◌, ◌++◌, Option, None, Some, length, get_or, take, map, filter, fold, max, nat_lt, refl, sym, ap, ◌∙◌, append_assoc, append-nil}
 use Rattle.std.proofs.Output.{writes_in_calls_nil}
+use Rattle.std.proofs.lemmas.Bool.{le-ltb}
 use Rattle.std.proofs.lemmas.List.{map-append, take_more}
 use Rattle.std.proofs.lemmas.List.Elements.{filter-append}
 use Rattle.std.proofs.lemmas.List.Sums.{fold_push}
@@ -8,7 +9,7 @@ use Rattle.std.proofs.lemmas.Str.{encodes-append}
 use Rattle.std.specs.Fmt.{HasWritten, IsPlainFormatter}
 use Rattle.std.specs.Str.{encode_utf8_all}
 use Rattle.std.specs.declared.fmt.Formatter.{Formatter}
-use Rattle.litrs_diagnostic.specs.Diagnostic.{Message, first_label, first_number, first_row, heading_text, last_number, last_row, margin_of, message_text, remarks_text, rows_of}
+use Rattle.litrs_diagnostic.specs.Diagnostic.{Message, first_label, first_number, first_row, heading_text, is_long, last_number, last_row, margin_of, message_text, remarks_text, rows_of}
 use Rattle.litrs_diagnostic.specs.Label.{LabelOn, greatest_number, is_between, label_number, label_row, rows_between}
 use Rattle.litrs_diagnostic.specs.Line.{Line, end_line_at, start_line_at}
 use Rattle.litrs_diagnostic.specs.Row.{Row, above_of, below_rows, is_whole, line_below, marks_text, row_if, rows_text}
@@ -185,16 +186,20 @@ five_parts is_colored margin a b c d e above_b above_c above_d above_e is_b is_c
     (more_bytes is_colored margin above_b above_c b (c ++ (d ++ e)) is_c)
     ∙ more_bytes is_colored margin None above_b a (b ++ (c ++ (d ++ e))) is_b)))))
 
-pub rows_are : (m : Message) (first last : ℕ) (start end : Row) →
-    first ≡ first_number m → last ≡ last_number m → start ≡ first_row m → end ≡ last_row m →
+pub rows_are : (m : Message) (first last : ℕ) (start : Row) →
+    first ≡ first_number m → last ≡ last_number m → start ≡ first_row m →
     rows_between m.first_line m.width 0 (Some first) m.labels
     ++ (row_if true start ++ (rows_between m.first_line m.width first (Some last) m.labels
-    ++ (row_if (nat_lt first last) end
+    ++ (row_if (is_long m) (last_row m)
     ++ rows_between m.first_line m.width last None m.labels)))
     ≡ rows_of m
 unfolding rows_of
-rows_are m first last start end is_first is_last is_start is_end =
-    rw (is_first, is_last, is_start, is_end) refl
+rows_are m first last start is_first is_last is_start = rw (is_first, is_last, is_start) refl
+
+pub is_not_long : (m : Message) (first last : ℕ) → first ≡ first_number m →
+    last ≡ last_number m → last ≤ first → is_long m ≡ false
+is_not_long m first last is_first is_last short =
+    rw (sym is_first, sym is_last) (le-ltb first last short)
 
 pub message_bytes : (is_colored : Bool) (margin : ℕ) (m : Message) → margin ≡ margin_of m →
     (encode_utf8_all (heading_text is_colored m)

@@ -1,7 +1,7 @@
 -- The reports on a literal and on an error for a person.
 use Rattle.std.specs.Prelude.{◌≡◌, ◌≢◌, ◌-◌, ◌^◌, ℕ, min, Bool, true, false, List, [], ◌++◌, Option, Some, None, codes, if◌then◌else◌}
 use Rattle.std.specs.Fmt.{decimal}
-use Rattle.std.specs.Str.{chars}
+use Rattle.std.specs.Str.{chars, encode_utf8_all}
 use Rattle.std.specs.declared.ops.Range.{Range}
 use Rattle.litrs_base.specs.Kind.{kind_text}
 use Rattle.litrs_base.specs.declared.err.ParseErrorKind.{ParseErrorKind}
@@ -56,15 +56,15 @@ pub record IsSignNote (text note : List ℕ) : Type 0 where
       note ≡ codes "  a sign is not part of a literal: without it, this is a float\n"
   pub other : ¬ IsNegated integer_literal text → ¬ IsNegated float_literal text → note ≡ []
 
--- The report is the text of this message, perhaps in color, and the line on more text. If the kind
--- is `InvalidLiteral`, the line on a sign follows, for the text that is marked.
+-- The report ends with this message, perhaps in color, and the line on more text, after the text
+-- `front`. If the kind is `InvalidLiteral`, the line on a sign follows, for the text that is marked.
 pub record IsProblemReport
-    (is_colored : Bool) (m : Message) (kind : Option ParseErrorKind) (is_incomplete : Bool)
-    (marked report : List ℕ) : Type 0 where
-  pub message : List ℕ
+    (front : List ℕ) (is_colored : Bool) (m : Message) (kind : Option ParseErrorKind)
+    (is_incomplete : Bool) (marked report : List ℕ) : Type 0 where
   pub sign : List ℕ
-  pub spells : report ≡ message ++ note_text is_incomplete ++ sign
-  pub shows : chars message ≡ (if is_colored then colored_text m else diagnostic_text m)
+  pub spells : report ≡ front
+      ++ (encode_utf8_all (if is_colored then colored_text m else diagnostic_text m)
+      ++ (note_text is_incomplete ++ sign))
   pub is_sign : kind ≡ Some InvalidLiteral → IsSignNote marked sign
   pub no_sign : kind ≢ Some InvalidLiteral → sign ≡ []
 

@@ -12,7 +12,7 @@ use crate::options::Options;
 use crate::output::Output;
 use crate::place::{Place, Span};
 use litrs::{Buffer, FloatLit, IntegerLit, Literal, ParseErrorKind};
-use litrs_diagnostic::{Color, Diagnostic, Painted, shown, shown_in_color};
+use litrs_diagnostic::{Color, Colored, Diagnostic, Painted};
 use litrs_explanation::push_explanation;
 use std::alloc::{AllocError, Global};
 use std::fmt::Write;
@@ -158,34 +158,13 @@ impl<'a> Reports<'a> {
     {
         self.has_errors = true;
         self.errors = self.errors.saturating_add(1);
-        let report = if self.options.json {
-            problem_object(self.alloc, self.name, problem)?
-        } else {
-            self.problem_lines(problem)?
-        };
-        self.output.add(report.as_str())
-    }
-
-    /// Returns the lines on an error for a person.
-    fn problem_lines(&self, problem: &Problem) -> Result<String, AllocError>
-        ensures { IfOk result (λ lines. IsProblemReport self.now.options.color
-            (problem_message self.now.name.now problem.now.source.now problem.now.place
-            problem.now.marked problem.now.kind)
-            problem.now.kind problem.now.is_incomplete (slice_range problem.now.source.now
-            problem.now.marked.start problem.now.marked.end) (string_bytes lines)) }
-    {
-        let marked = problem.marked.start..problem.marked.end;
-        let diagnostic = Diagnostic::new(self.name, problem.source, marked, problem.message())
-            .with_first(narrowed(problem.place.line), narrowed(problem.place.column))
-            .with_width(WIDTH);
-        let mut lines = if self.options.color {
-            shown_in_color(self.alloc, &diagnostic)?
-        } else {
-            shown(self.alloc, &diagnostic)?
-        };
-        lines.push_str(note(problem.is_incomplete))?;
-        lines.push_str(problem.sign_note())?;
-        Ok(lines)
+        if self.options.json {
+            let object = problem_object(self.alloc, self.name, problem)?;
+            return self.output.add(object.as_str());
+        }
+        let out = &mut self.output.unwritten;
+        push_problem(out, self.name, problem, self.options.color)?;
+        self.output.end_report()
     }
 }
 
@@ -221,6 +200,33 @@ fn push_literal<B: Buffer>(out: &mut String, literal: &Literal<B>) -> Result<(),
 {
     out.push_str(" ")?;
     push_explanation(out, literal)
+}
+
+/// Appends the lines on an error in the file `name`, for a person.
+fn push_problem(
+    out: &mut String,
+    name: &str,
+    problem: &Problem,
+    is_colored: bool,
+) -> Result<(), AllocError>
+    ensures { OnOk result (IsProblemReport (string_bytes out.old) is_colored
+        (problem_message name.now problem.now.source.now problem.now.place
+        problem.now.marked problem.now.kind)
+        problem.now.kind problem.now.is_incomplete (slice_range problem.now.source.now
+        problem.now.marked.start problem.now.marked.end) (string_bytes out.new)) }
+{
+    let marked = problem.marked.start..problem.marked.end;
+    let diagnostic = Diagnostic::new(name, problem.source, marked, problem.message())
+        .with_first(narrowed(problem.place.line), narrowed(problem.place.column))
+        .with_width(WIDTH);
+    if is_colored {
+        let colored = Colored(diagnostic);
+        write!(out, "{colored}")?;
+    } else {
+        write!(out, "{diagnostic}")?;
+    }
+    out.push_str(note(problem.is_incomplete))?;
+    out.push_str(problem.sign_note())
 }
 
 /// Returns the line that says whether more text can complete the literal.

@@ -14,9 +14,9 @@ returns g c = λ plain ok.
     let three = c.write-3.ensures.writes two.plain ok in
     let color = c.opening-color.ensures ∙ ap (opening frame.is_colored) c.color.ensures in
     has_written_of_eq _ _ _ _ _ (heading_bytes frame.is_colored frame.margin
-    c.first_place-line.result.line c.first_place-line.result.column c.opening-color.result.now
+    c.args.first.line c.args.first.column c.opening-color.result.now
     c.word-level.result.now c.closing-plain.result.now c.opening-blue.result.now
-    (message_of c.args.diagnostic.now) c.requires c.first_place-line.ensures.line
-    c.first_place-line.ensures.column color c.word-level.ensures c.closing-plain.ensures
+    (message_of c.args.diagnostic.now) c.requires.margin c.requires.line c.requires.column
+    color c.word-level.ensures c.closing-plain.ensures
     c.opening-blue.ensures)
     (has_written_append _ _ _ _ _ _ (has_written_append _ _ _ _ _ _ one two) three)
