@@ -395,13 +395,11 @@ impl<'a> Explainer<'a> {
     {
         let marked = marked_part(text, &piece, error);
         let mark = mark.moved_before(text, marked.start);
-        let start = mark.moved(text, marked.start);
-        let end = start.moved(text, marked.end);
         let problem = Problem {
             source: &text[mark.at..around_end(text, marked.end)],
             place: mark.place,
             marked: marked.start - mark.at..marked.end - mark.at,
-            span: self.span(start, end),
+            bytes: self.in_file(marked.start)..self.in_file(marked.end),
             kind: Some(error.kind()),
             is_incomplete: is_incomplete(&text[piece.start..piece.end], error),
         };
@@ -429,21 +427,12 @@ impl<'a> Explainer<'a> {
             return Ok(());
         };
         let source = chunk.valid();
-        let start = self.next.after(source);
         let at = self.next_in_file.saturating_add(source.len());
-        let end = Place {
-            line: start.line,
-            column: start.column.saturating_add(1),
-        };
         let problem = Problem {
             source,
             place: self.next,
             marked: source.len()..source.len(),
-            span: Span {
-                start,
-                end,
-                bytes: at..at.saturating_add(chunk.invalid().len()),
-            },
+            bytes: at..at.saturating_add(chunk.invalid().len()),
             kind: None,
             is_incomplete: false,
         };

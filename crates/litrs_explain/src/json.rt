@@ -26,7 +26,7 @@ pub(crate) fn problem_object(
     file: &str,
     problem: &Problem,
 ) -> Result<String, AllocError> {
-    let head = head(alloc, file, &problem.span, "error")?;
+    let head = head(alloc, file, &problem.span(), "error")?;
     let error = match problem.kind {
         Some(kind) => format!(in alloc; "{kind:?}")?,
         None => String::from_str(alloc, "NotUtf8")?,

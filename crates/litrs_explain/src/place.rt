@@ -40,6 +40,14 @@ impl Place {
         }
     }
 
+    /// Returns the place one column further.
+    pub(crate) fn next_column(self) -> Place {
+        Place {
+            line: self.line,
+            column: self.column.saturating_add(1),
+        }
+    }
+
     /// Returns the start of the next line.
     pub(crate) fn next_line(self) -> Place {
         Place {

@@ -34,8 +34,8 @@ pub(crate) struct Problem<'a> {
     pub(crate) place: Place,
     /// The error in `source`, in bytes.
     pub(crate) marked: Range<usize>,
-    /// The place of the error in the file.
-    pub(crate) span: Span,
+    /// The error in the file, in bytes.
+    pub(crate) bytes: Range<usize>,
     /// The kind of the error, or `None` for a byte that is not UTF-8.
     pub(crate) kind: Option<ParseErrorKind>,
     /// Set if more text can complete the literal.
@@ -52,6 +52,20 @@ impl Problem<'_> {
         match self.kind {
             Some(kind) => kind.description(),
             None => "byte that is not UTF-8",
+        }
+    }
+
+    /// Returns the place of the error in the file. A byte that is not UTF-8 is one column wide.
+    pub(crate) fn span(&self) -> Span {
+        let start = self.place.after(&self.source[..self.marked.start]);
+        let end = match self.kind {
+            Some(_) => start.after(&self.source[self.marked.start..self.marked.end]),
+            None => start.next_column(),
+        };
+        Span {
+            start,
+            end,
+            bytes: self.bytes.start..self.bytes.end,
         }
     }
 
