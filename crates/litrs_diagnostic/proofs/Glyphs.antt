@@ -19,23 +19,13 @@ run_ascii glyph zero = IsAscii-nil
 run_ascii glyph (suc n) = IsAscii-cons (glyph_char glyph) (replicate n (glyph_char glyph))
     (glyph_low glyph) (run_ascii glyph n)
 
--- one more run
-pub run_more : (glyph : Glyph) (done all : ℕ) (run : List ℕ) →
-    run ≡ replicate 32 (glyph_char glyph) → done + 32 ≡ all →
-    encode_utf8_all (replicate done (glyph_char glyph)) ++ run
-    ≡ encode_utf8_all (replicate all (glyph_char glyph))
-run_more glyph done all run is sum =
-    ap (λ (l : List ℕ). encode_utf8_all (replicate done (glyph_char glyph)) ++ l)
-    (is ∙ sym (encodes-IsAscii (replicate 32 (glyph_char glyph)) (run_ascii glyph 32)))
-    ∙ times_more done 32 all (glyph_char glyph) sum
-
--- the last part of one
-pub run_last : (glyph : Glyph) (done left all : ℕ) (run part : List ℕ) →
+-- a part of a run more
+pub run_more : (glyph : Glyph) (done left all : ℕ) (run part : List ℕ) →
     run ≡ replicate 32 (glyph_char glyph) → part ≡ take (left - 0) run → left ≤ 32 →
     done + left ≡ all →
     encode_utf8_all (replicate done (glyph_char glyph)) ++ part
     ≡ encode_utf8_all (replicate all (glyph_char glyph))
-run_last glyph done left all run part is cut short sum =
+run_more glyph done left all run part is cut short sum =
     ap (λ (l : List ℕ). encode_utf8_all (replicate done (glyph_char glyph)) ++ l)
     (cut ∙ (ap (λ (n : ℕ). take n run) (let same : left - 0 ≡ left = omega arith in same)
     ∙ (ap (take left) is ∙ (take-replicate left 32 (glyph_char glyph) short

@@ -239,9 +239,10 @@ fn write_times<W: fmt::Write>(f: &mut fmt::Formatter<W>, glyph: Glyph, count: us
 {
     let run = glyph.run();
     let mut left = count;
-    while left > RUN_LEN {
-        f.write_str(run)?;
-        left -= RUN_LEN;
+    while left > 0 {
+        let len = left.min(RUN_LEN);
+        f.write_str(&run[..len])?;
+        left -= len;
     }
-    f.write_str(&run[..left])
+    Ok(())
 }
