@@ -1,5 +1,6 @@
 -- Escapes: what their bytes say of the characters.
-use Rattle.std.proofs.Common.{◌≡◌, ℕ, suc, ◌+◌, ◌<◌, ◌≤◌, Bool, true, false, not, ◌&&◌, ◌||◌, List, [], ◌∷◌, ◌++◌, length, drop, get_or, Some, None, refl, sym, ap, ◌∙◌, subst, arith, inl, inr, ◌^◌, cond, take, take-append-drop}
+use Rattle.std.proofs.lemmas.List.{get_or-drop, length-drop}
+use Rattle.std.proofs.Common.{◌≡◌, ℕ, suc, ◌+◌, ◌-◌, ◌<◌, ◌≤◌, Bool, true, false, not, ◌&&◌, ◌||◌, List, [], ◌∷◌, ◌++◌, length, drop, get_or, Some, None, refl, sym, ap, ◌∙◌, subst, arith, inl, inr, ◌^◌, cond, take, take-append-drop}
 use Rattle.std.specs.Prelude.{◌==◌, Result, Ok, Err, IfErr, count_by, encode_utf8_all}
 use Rattle.std.specs.Char.{IsScalar, is_ascii_hexdigit, digit_value}
 use Rattle.std.specs.Str.{chars, IsUtf8, IsCharBoundary}
@@ -265,6 +266,27 @@ underscore_more t i inside is all =
       all_more is_hex_or_underscore t i inside all (ap is_hex_or_underscore is),
       omega arith,
       numeral_underscore 16 t i inside is,
+    )
+
+-- four more
+pub four_underscores_more : (t rest : List ℕ) (i : ℕ) → drop i t ≡ 95 ∷ 95 ∷ 95 ∷ 95 ∷ rest → list_all is_hex_or_underscore (take i t) ≡ true →
+    (i + 4 ≤ length t) × (list_all is_hex_or_underscore (take (i + 4) t) ≡ true)
+    × (count_by is_ascii_hexdigit (take (i + 4) t) ≡ count_by is_ascii_hexdigit (take i t)) × (hex_value (take (i + 4) t) ≡ hex_value (take i t))
+four_underscores_more t rest i is all =
+    let long : length (95 ∷ 95 ∷ 95 ∷ 95 ∷ rest) ≡ length t - i = sym (ap length is) ∙ length-drop i t in
+    let more : 4 ≤ length (95 ∷ 95 ∷ 95 ∷ 95 ∷ rest) = omega arith in
+    let inside : i + 4 ≤ length t = omega (arith, long, more) in
+    let at : (k n : ℕ) → i + k ≡ n → get_or (95 ∷ 95 ∷ 95 ∷ 95 ∷ rest) k 0 ≡ 95 → get_or t n 0 ≡ 95 = λ k n sum here.
+    sym (get_or-drop i t k 0 ∙ ap (λ m. get_or t m 0) sum) ∙ (ap (λ (l : List ℕ). get_or l k 0) is ∙ here) in
+    let a = underscore_more t i (omega (arith, inside)) (at 0 i (omega arith) refl) all in
+    let b = underscore_more t (i + 1) (omega (arith, inside)) (at 1 (i + 1) refl refl) a.0 in
+    let c = underscore_more t (i + 1 + 1) (omega (arith, inside)) (at 2 (i + 1 + 1) (omega arith) refl) b.0 in
+    let d = underscore_more t (i + 1 + 1 + 1) (omega (arith, inside)) (at 3 (i + 1 + 1 + 1) (omega arith) refl) c.0 in
+    let same : i + 1 + 1 + 1 + 1 ≡ i + 4 = omega arith in (
+      inside,
+      ap (λ n. list_all is_hex_or_underscore (take n t)) (sym same) ∙ d.0,
+      ap (λ n. count_by is_ascii_hexdigit (take n t)) (sym same) ∙ (d.1 ∙ (c.1 ∙ (b.1 ∙ a.1))),
+      ap (λ n. hex_value (take n t)) (sym same) ∙ (d.2 ∙ (c.2 ∙ (b.2 ∙ a.2))),
     )
 
 -- fewer than six digits leave room for one more

@@ -211,6 +211,11 @@ pub fn hex_digits(bytes: &[u8]) -> HexDigits
     let mut value = 0;
     while len < bytes.len() {
         let byte = bytes[len];
+        // A run of underscores is skipped by four, in a loop with few jumps.
+        if byte == b'_' && bytes[len..].starts_with(b"____") {
+            len += 4;
+            continue;
+        }
         if byte != b'_' {
             match hex_digit_value(byte) {
                 Some(digit) if count < 6 => {

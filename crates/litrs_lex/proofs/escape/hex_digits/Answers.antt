@@ -1,11 +1,14 @@
 -- A digit more, or underscores.
-use Rattle.std.proofs.Common.{◌≡◌, ℕ, ◌^◌, ◌*◌, cond, get_or, ap, ◌∙◌, refl, arith}
+use Rattle.std.proofs.Common.{◌≡◌, [], ◌∷◌, ◌-◌, drop, take, length, sym, List, ℕ, ◌^◌, ◌*◌, cond, get_or, ap, ◌∙◌, refl, arith}
 use Rattle.std.specs.Char.{is_ascii_hexdigit}
 use Rattle.std.proofs.lemmas.Grind.{pow_more}
 use Rattle.std.proofs.lemmas.Bool.{or_left}
 use Rattle.litrs_grammar.specs.Escape.{is_hex_or_underscore}
+use Rattle.std.proofs.lemmas.Bool.Decides.{Decides-eqb}
+use Rattle.std.proofs.lemmas.Slice.Eq.{starts_is}
+use Rattle.litrs_lex.proofs.FloatBytes.{rest_is}
 use Rattle.litrs_lex.proofs.NumeralLemmas.{numeral-nil, numeral_digit}
-use Rattle.litrs_lex.proofs.EscapeBytes.{six_digits, digit_small, all_more, count_one, digit_no_underscore, underscore_more}
+use Rattle.litrs_lex.proofs.EscapeBytes.{six_digits, digit_small, all_more, count_one, digit_no_underscore, four_underscores_more, underscore_more}
 use Rattle.litrs_lex.proofs.escape.hex_digits.Goals as goal
 use Rattle.litrs_lex.proofs.escape.hex_digits.Goals.{then-byte-ne95+in-Some, else-byte-ne95}
 
@@ -29,6 +32,23 @@ overflow_add-value c =
     let digit = digit_small (get_or c.args.bytes.now c.loop-len.len 0) c.in-Some.ensures.0 in
     let is = c.in-Some.ensures.1 in
     let wide = c.from.ensures in omega arith
+
+pub loop-len-preserved-then-starts_with : goal.loop-len-preserved-then-starts_with
+loop-len-preserved-then-starts_with c =
+    let t = c.args.bytes.now in
+    let i = c.loop-len.len in
+    let begins = (starts_is Decides-eqb (take (length t - i) (drop i t)) (95 ∷ 95 ∷ 95 ∷ 95 ∷ []) _ c.starts_with.ensures.value).0 c.if-starts_with.true in
+    let rest = rest_is t t i refl in
+    let front : drop i t ≡ 95 ∷ 95 ∷ 95 ∷ 95 ∷ drop 4 (drop i t) = sym rest ∙ (begins ∙ ap (λ (l : List ℕ). 95 ∷ 95 ∷ 95 ∷ 95 ∷ drop 4 l) rest) in
+    let more = four_underscores_more t (drop 4 (drop i t)) i front c.loop-len.invariant.passes in
+    record {
+      within = more.0;
+      passes = more.1;
+      count = more.2 ∙ c.loop-len.invariant.count;
+      few = c.loop-len.invariant.few;
+      value = more.3 ∙ c.loop-len.invariant.value;
+      small = c.loop-len.invariant.small;
+    }
 
 pub loop-len-preserved : goal.loop-len-preserved
 loop-len-preserved c =
