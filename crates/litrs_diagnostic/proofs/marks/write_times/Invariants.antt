@@ -1,4 +1,4 @@
--- What is left, and what was written.
+-- The characters that are left, and those that were written.
 use Rattle.std.proofs.Common.{◌≡◌, ◌+◌, ℕ, replicate}
 use Rattle.std.specs.Fmt.{HasWritten, IsPlainFormatter}
 use Rattle.std.specs.Str.{encode_utf8_all}
