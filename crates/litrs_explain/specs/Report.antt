@@ -11,7 +11,7 @@ use Rattle.litrs_explain.specs.declared.place.Place.{Place}
 use Rattle.litrs_explanation.specs.Explanation.{IsExplanation}
 use Rattle.litrs_grammar.specs.Literal.{Derivation, LiteralKind, integer_literal, float_literal, kind_parse, IsLiteralOf}
 
--- the name of a file, and a line and a column in it
+-- The name of a file, and a line and a column in it.
 abbrev pub place_text : (name : List ℕ) → Place → List ℕ
 place_text name place =
     name ++ (codes ":" ++
@@ -22,21 +22,21 @@ abbrev pub IsLiteralReport : (front : List ℕ) → Derivation → (report : Lis
 IsLiteralReport front d report =
     (lines : List ℕ) × IsExplanation d lines × (report ≡ front ++ (codes " " ++ lines))
 
--- the message on an error of this kind, or on a byte that is not UTF-8
+-- The message on an error of this kind, or on a byte that is not UTF-8.
 abbrev pub message_text : Option ParseErrorKind → List ℕ
 message_text (Some kind) = kind_text kind
 message_text None = codes "byte that is not UTF-8"
 
--- the line that says whether more text can complete the literal
+-- The line that says whether more text can complete the literal.
 abbrev pub note_text : (is_incomplete : Bool) → List ℕ
 note_text true = codes "  this is incomplete: more text can complete it\n"
 note_text false = codes "  no continuation of this text is a literal\n"
 
--- the number, or the greatest that 32 bits hold
+-- The number, or the greatest that 32 bits hold.
 abbrev pub narrowed : ℕ → ℕ
 narrowed n = min n (2 ^ 32 - 1)
 
--- the message on a part of `source`, which begins at `place` in this file, in 100 columns
+-- The message on a part of `source`, which begins at `place` in this file, in 100 columns.
 abbrev pub problem_message :
     (name source : List ℕ) → Place → (marked : Range ℕ) → Option ParseErrorKind → Message
 problem_message name source place marked kind =

@@ -1,7 +1,7 @@
 -- Text that is appended to a buffer.
 use Rattle.std.specs.Prelude.{ℕ, ◌≡◌, List, ◌++◌, length, drop, Result, OnOk}
 
--- the bytes after `old` in `new`
+-- The bytes after `old` in `new`.
 abbrev pub appended : (old new : List ℕ) → List ℕ
 appended old new = drop (length old) new
 

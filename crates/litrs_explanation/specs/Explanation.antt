@@ -30,7 +30,7 @@ use Rattle.litrs_value.specs.FloatValue.{float_value}
 use Rattle.litrs_value.specs.Values.{format_of}
 use Rattle.ryu.specs.Plain.{IsPlainNumber, IsLaidOutNumber}
 
--- the name of the kind
+-- The name of the kind.
 abbrev pub kind_name : Derivation → List ℕ
 kind_name (a_bool b) = codes "bool"
 kind_name (an_integer d) = codes "integer"
@@ -41,42 +41,42 @@ kind_name (a_string d) = codes "string"
 kind_name (a_byte_string d) = codes "byte string"
 kind_name (a_c_string d) = codes "C string"
 
--- a line on a part of this name
+-- A line on a part of this name.
 abbrev pub field : (name part : List ℕ) → List ℕ
 field name part = codes "  " ++ (name ++ (codes " " ++ (part ++ codes "\n")))
 
--- the line on a value that is shown as a literal
+-- The line on a value that is shown as a literal.
 abbrev pub value_field : (literal : List ℕ) → List ℕ
 value_field literal = field (codes "value") (encode_utf8_all literal)
 
--- the line on a part, or none if the part is empty
+-- The line on a part, or none if the part is empty.
 abbrev pub field_of_part : (name part : List ℕ) → List ℕ
 field_of_part name [] = []
 field_of_part name part = field name part
 
--- a number in decimal, if 128 bits hold it
+-- A number in decimal, if 128 bits hold it.
 abbrev pub integer_text : ℕ → List ℕ
 integer_text n = if nat_le n (greatest_of U128) then decimal n else codes "2^128 or more"
 
--- all integer types
+-- All integer types.
 abbrev pub integer_types : List IntegerType
 integer_types =
     U8 ∷ U16 ∷ U32 ∷ U64 ∷ U128 ∷ Usize ∷ I8 ∷ I16 ∷ I32 ∷ I64 ∷ I128 ∷ Isize ∷ []
 
--- a blank and the name of the type, if it has the number
+-- A blank and the name of the type, if it has the number.
 abbrev pub name_where_fits : ℕ → IntegerType → List ℕ
 name_where_fits n ty = if nat_le n (greatest_of ty) then codes " " ++ type_name ty else []
 
--- those of the types, one after the other
+-- Those of the types, one after the other.
 abbrev pub names_of : ℕ → List IntegerType → List ℕ
 names_of n types = flat_map (name_where_fits n) types
 
--- those of all types
+-- Those of all types.
 abbrev pub names_that_fit : ℕ → List ℕ
 names_that_fit n =
     if nat_le n (greatest_of U128) then names_of n integer_types else codes " no integer type"
 
--- the lines on the value, the base and the digits of an integer, and on the types that have it
+-- The lines on the value, the base and the digits of an integer, and on the types that have it.
 abbrev pub integer_fields : IntegerParts → List ℕ
 integer_fields d =
     codes "  value " ++ (integer_text (integer_value d)
@@ -84,7 +84,7 @@ integer_fields d =
     ++ (codes "\n  digits " ++ (encode_utf8_all d.main
     ++ (codes "\n  fits" ++ (names_that_fit (integer_value d) ++ codes "\n")))))))
 
--- the line on the digits after a period, even if there are none; no line if there is no period
+-- The line on the digits after a period, even if there are none; no line if there is no period.
 abbrev pub fraction_field : Option (List ℕ) → List ℕ
 fraction_field None = []
 fraction_field (Some digits) = field (codes "fraction") (encode_utf8_all digits)
@@ -124,7 +124,7 @@ IsNumberOf ty d text = IsNumber (format_of ty) (whole_digits ty) (leading_zeros 
 abbrev pub IsOutOfRange : FloatType → FloatParts → Type 0
 IsOutOfRange ty d = IsFalse (float_is_finite (float_value (format_of ty) false d))
 
--- the text for a value that is too large for this type
+-- The text for a value that is too large for this type.
 abbrev pub out_of_range : FloatType → List ℕ
 out_of_range ty = codes "infinity, out of range for " ++ float_type_name ty
 
@@ -134,7 +134,7 @@ abbrev pub IsValueText : FloatParts → (text : List ℕ) → Type 0
 IsValueText d text = (ty : FloatType) × IsTypeOf d ty
     × (IsNumberOf ty d text ⊎ (IsOutOfRange ty d × (text ≡ out_of_range ty)))
 
--- the lines on the value of a float, which is shown as the text, and on its parts
+-- The lines on the value of a float, which is shown as the text, and on its parts.
 abbrev pub float_fields : (value : List ℕ) → FloatParts → List ℕ
 float_fields value d =
     codes "  value " ++ (value
@@ -173,11 +173,11 @@ abbrev pub escaped_char : ℕ → List ℕ
 escaped_char c =
     if is_printable c then c ∷ [] else codes "\\u{" ++ (digits 16 false c ++ codes "}")
 
--- likewise for each character of a text
+-- Likewise for each character of a text.
 abbrev pub escaped : List ℕ → List ℕ
 escaped t = flat_map escaped_char t
 
--- a line on the kind, these lines on the value and the parts, and one on the suffix
+-- A line on the kind, these lines on the value and the parts, and one on the suffix.
 abbrev pub explanation : (fields : List ℕ) → Derivation → List ℕ
 explanation fields d =
     kind_name d ++ (codes "\n" ++ (fields
@@ -188,7 +188,7 @@ abbrev pub IsExplanation : Derivation → (lines : List ℕ) → Type 0
 IsExplanation d lines =
     (fields : List ℕ) × IsFields d fields × (lines ≡ explanation fields d)
 
--- an LF or a printable character: an explanation has no other
+-- An LF or a printable character: an explanation has no other.
 abbrev pub is_line_feed_or_printable : ℕ → Bool
 is_line_feed_or_printable c = (c == line_feed) || is_printable c
 

@@ -20,7 +20,7 @@ use Rattle.litrs_grammar.specs.Quoted.{IsQuotedLiteralRefusal}
 use Rattle.litrs_grammar.specs.Raw.{raw_literal_refusal}
 use Rattle.litrs_grammar.specs.Literal.{LiteralKind, bool_literal, integer_literal, float_literal, char_literal, byte_literal, string_literal, byte_string_literal, c_string_literal, Parse, literal_parse, kind_parse}
 
--- Strings of each kind
+-- Strings of each kind.
 
 -- The refusal of a text that starts with neither front of the kind.
 abbrev pub string_start_refusal : StringKind → Refusal
@@ -64,7 +64,7 @@ IsKindRefusal string_literal t e = IsStringRefusal string_kind t e
 IsKindRefusal byte_string_literal t e = IsStringRefusal byte_string_kind t e
 IsKindRefusal c_string_literal t e = IsStringRefusal c_string_kind t e
 
--- Literals of any kind
+-- Literals of any kind.
 
 -- A period, `e` or `E`, one of which follows the integer part of a float.
 abbrev pub is_float_mark : ℕ → Bool

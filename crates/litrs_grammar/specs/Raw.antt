@@ -21,7 +21,7 @@ is_quote c = c == double_quote
 abbrev pub is_hash : ℕ → Bool
 is_hash c = c == hash
 
--- NUL
+-- NUL.
 abbrev pub is_nul : ℕ → Bool
 is_nul c = c == nul
 

@@ -20,11 +20,11 @@ star = 42
 abbrev pub slash : ℕ
 slash = 47
 
--- the character is not a line feed
+-- The character is not a line feed.
 abbrev pub is_of_line : ℕ → Bool
 is_of_line c = not (c == line_feed)
 
--- the part of the text from its first line feed on
+-- The part of the text from its first line feed on.
 abbrev pub after_line : List ℕ → List ℕ
 after_line t = after_while is_of_line t
 
@@ -33,15 +33,15 @@ after_line t = after_while is_of_line t
 abbrev pub IsLineComment : (t rest : List ℕ) → Type 0
 IsLineComment t rest = (body : List ℕ) × (t ≡ slash ∷ slash ∷ body) × (rest ≡ after_line body)
 
--- the two characters are `/*`
+-- The two characters are `/*`.
 abbrev pub opens_comment : (c d : ℕ) → Bool
 opens_comment c d = (c == slash) && (d == star)
 
--- the two characters are `*/`
+-- The two characters are `*/`.
 abbrev pub closes_comment : (c d : ℕ) → Bool
 closes_comment c d = (c == star) && (d == slash)
 
--- the text starts with `/*` or `*/`
+-- The text starts with `/*` or `*/`.
 abbrev pub starts_with_mark : List ℕ → Bool
 starts_with_mark [] = false
 starts_with_mark (c ∷ []) = false
@@ -57,7 +57,7 @@ pub data IsBody : (t rest : List ℕ) → Type 0 where
   character : {c : ℕ} {t rest : List ℕ} → IsFalse (starts_with_mark (c ∷ t)) →
       IsBody t rest → IsBody (c ∷ t) rest
 
--- a block comment is at the front of the text, up to the rest
+-- A block comment is at the front of the text, up to the rest.
 abbrev pub IsBlockComment : (t rest : List ℕ) → Type 0
 IsBlockComment t rest = (body : List ℕ) × (t ≡ slash ∷ star ∷ body) × IsBody body rest
 
@@ -90,7 +90,7 @@ block_doc (c ∷ t) =
     else if (c == star) && not (first_passes is_star_or_slash t) then Some Outer
     else None
 
--- the documentation that a token of this kind and text is
+-- The documentation that a token of this kind and text is.
 abbrev pub doc_style : TokenKind → List ℕ → Option DocStyle
 doc_style LineComment t = line_doc (drop 2 t)
 doc_style BlockComment t = block_doc (drop 2 t)

@@ -12,18 +12,18 @@ use Rattle.litrs_lexer.specs.Comment.{is_star_or_slash}
 use Rattle.litrs_lexer.specs.Token.{IsToken}
 use Rattle.litrs_lexer.specs.declared.kind.TokenKind.{TokenKind}
 
--- the first bytes of the text, up to the rest, are a token of this kind
+-- The first bytes of the text, up to the rest, are a token of this kind.
 pub record IsCut (text : List ℕ) (kind : TokenKind) (rest : List ℕ) : Type 0 where
   pub is : IsToken kind (chars text) (chars rest)
   pub end : IsEndOf text rest
   pub shorter : length rest < length text
 
--- the text starts with this character, before the rest
+-- The text starts with this character, before the rest.
 pub record IsFirstChar (text : List ℕ) (c : ℕ) (rest : List ℕ) : Type 0 where
   pub bytes : text ≡ encode_utf8 c ++ rest
   pub is : chars text ≡ c ∷ chars rest
 
--- the byte begins a character that is not ASCII
+-- The byte begins a character that is not ASCII.
 abbrev pub is_wide : ℕ → Bool
 is_wide b = nat_le 128 b
 
@@ -39,15 +39,15 @@ begins_prefix c = (c == letter_b) || (c == letter_c) || (c == letter_r)
 abbrev pub is_other_mark : ℕ → Bool
 is_other_mark c = (c == 34) || (c == 39) || (c == 92) || (c == 95) || (c == 96)
 
--- white space of ASCII
+-- White space of ASCII.
 abbrev pub is_ascii_white_space : ℕ → Bool
 is_ascii_white_space c = (c == 32) || (nat_le 9 c && nat_le c 13)
 
--- the ASCII characters of a class, by their bytes
+-- The ASCII characters of a class, by their bytes.
 abbrev pub is_of_class : Class → ℕ → Bool
 is_of_class Word = is_in_run Identifier
 is_of_class Space = is_ascii_white_space
 
--- neither `/*` nor `*/` starts with the character
+-- Neither `/*` nor `*/` starts with the character.
 abbrev pub is_of_comment : ℕ → Bool
 is_of_comment c = not (is_star_or_slash c)

@@ -9,11 +9,11 @@ use Rattle.litrs_prefix.specs.Opens.{first_name, after_name}
 use Rattle.litrs_prefix.specs.Prefix.{is_quote_or_hash}
 use Rattle.litrs_lexer.specs.Literal.{opens_quoted}
 
--- the text starts with a name: XID_Start or `_`, and then as many XID_Continue as there are
+-- The text starts with a name: XID_Start or `_`, and then as many XID_Continue as there are.
 abbrev pub begins_name : List ℕ → Bool
 begins_name t = first_passes starts_identifier t
 
--- the text starts with `r#` and a name
+-- The text starts with `r#` and a name.
 abbrev pub begins_raw_name : List ℕ → Bool
 begins_raw_name [] = false
 begins_raw_name (c ∷ []) = false

@@ -10,7 +10,7 @@ use Rattle.litrs_lexer.specs.Token.{IsToken}
 use Rattle.litrs_lexer.specs.declared.kind.TokenKind.{TokenKind}
 use Rattle.litrs_lexer.specs.declared.kind.TokenKind.TheVariants.{MalformedLiteral}
 
--- a text has at most one token at its front
+-- A text has at most one token at its front.
 abbrev pub TokensAreUnique : Type 0
 TokensAreUnique = (t : List ℕ) (k j : TokenKind) (r u : List ℕ) →
     IsToken k t r → IsToken j t u → (k ≡ j) × (r ≡ u)

@@ -22,12 +22,12 @@ abbrev pub IsPunctuation : (t rest : List ℕ) → Type 0
 IsPunctuation t rest = (c : ℕ) × (t ≡ c ∷ rest) × IsTrue (is_punctuation c)
     × IsFalse ((c == slash) && first_passes is_star_or_slash rest)
 
--- no other token begins with the character
+-- No other token begins with the character.
 abbrev pub is_unknown : ℕ → Bool
 is_unknown c =
     not (is_white_space c) && not (starts_identifier c) && not (is_ascii_digit c)
     && not (c == double_quote) && not (c == single_quote) && not (is_punctuation c)
 
--- an unknown character is at the front of the text, before the rest
+-- An unknown character is at the front of the text, before the rest.
 abbrev pub IsUnknown : (t rest : List ℕ) → Type 0
 IsUnknown t rest = (c : ℕ) × (t ≡ c ∷ rest) × IsTrue (is_unknown c)

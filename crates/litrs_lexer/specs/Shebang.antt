@@ -6,11 +6,11 @@ use Rattle.litrs_lexer.specs.Comment.{exclamation, doc_style}
 use Rattle.litrs_lexer.specs.Token.{IsToken, is_trivia}
 use Rattle.litrs_lexer.specs.declared.kind.TokenKind.{TokenKind}
 
--- U+FEFF
+-- U+FEFF.
 abbrev pub is_byte_order_mark : ℕ → Bool
 is_byte_order_mark c = c == 65279
 
--- the text without a byte order mark at its front
+-- The text without a byte order mark at its front.
 abbrev pub after_byte_order_mark : List ℕ → List ℕ
 after_byte_order_mark [] = []
 after_byte_order_mark (c ∷ t) = if is_byte_order_mark c then t else (c ∷ t)
@@ -26,7 +26,7 @@ pub data OpensAttribute : (t : List ℕ) → Type 0 where
   skipped : (kind : TokenKind) {t rest : List ℕ} → IsToken kind t rest →
       IsTrue (is_trivia kind) → doc_style kind t ≡ None → OpensAttribute rest → OpensAttribute t
 
--- the text starts with a shebang: `#!` that does not begin an attribute
+-- The text starts with a shebang: `#!` that does not begin an attribute.
 abbrev pub HasShebang : List ℕ → Type 0
 HasShebang t =
     (line : List ℕ) × (t ≡ hash ∷ exclamation ∷ line) × (OpensAttribute line → ⊥)

@@ -10,7 +10,7 @@ use Rattle.litrs_lexer.specs.Whitespace.{IsWhitespace}
 use Rattle.litrs_lexer.specs.declared.kind.TokenKind.{TokenKind}
 use Rattle.litrs_lexer.specs.declared.kind.TokenKind.TheVariants.{Whitespace, LineComment, BlockComment, UnterminatedBlockComment, Ident, RawIdent, UnknownPrefix, Lifetime, RawLifetime, UnknownPrefixLifetime, Literal, MalformedLiteral, Punctuation, Unknown}
 
--- a token of this kind is at the front of the text, up to the rest
+-- A token of this kind is at the front of the text, up to the rest.
 abbrev pub IsToken : TokenKind → (t rest : List ℕ) → Type 0
 IsToken Whitespace t rest = IsWhitespace t rest
 IsToken LineComment t rest = IsLineComment t rest
@@ -27,7 +27,7 @@ IsToken MalformedLiteral t rest = IsMalformedLiteral t rest
 IsToken Punctuation t rest = IsPunctuation t rest
 IsToken Unknown t rest = IsUnknown t rest
 
--- tokens of the kind are white space or comments
+-- Tokens of the kind are white space or comments.
 abbrev pub is_trivia : TokenKind → Bool
 is_trivia Whitespace = true
 is_trivia LineComment = true
@@ -35,7 +35,7 @@ is_trivia BlockComment = true
 is_trivia UnterminatedBlockComment = true
 is_trivia kind = false
 
--- tokens of the kind are literals, valid or malformed
+-- Tokens of the kind are literals, valid or malformed.
 abbrev pub begins_literal : TokenKind → Bool
 begins_literal Literal = true
 begins_literal MalformedLiteral = true

@@ -7,7 +7,7 @@ use Rattle.litrs_lexer.specs.declared.kind.TokenKind.{TokenKind}
 use Rattle.litrs_lexer.specs.declared.kind.TokenKind.TheVariants.{Literal, MalformedLiteral}
 use Rattle.litrs_lexer.specs.declared.token.Token.{Token}
 
--- the text of a `Literal` is a literal, and that of a `MalformedLiteral` is not
+-- The text of a `Literal` is a literal, and that of a `MalformedLiteral` is not.
 abbrev pub IsLiteralBy : TokenKind → List ℕ → Type 0
 IsLiteralBy Literal text = (d : Derivation) × IsLiteral text d
 IsLiteralBy MalformedLiteral text = (d : Derivation) → IsLiteral text d → ⊥
@@ -22,18 +22,18 @@ pub record IsFirstToken (source text : List ℕ) (token : Token) (rest : List �
   pub start : token.start + length text ≡ length source
   pub literal : IsLiteralBy token.kind (chars token.text.now)
 
--- a step of the iterator, from the text that is left before it to the text that is left after it
+-- A step of the iterator, from the text that is left before it to the text that is left after it.
 abbrev pub GivesToken : (source text : List ℕ) → Option Token → (rest : List ℕ) → Type 0
 GivesToken source text None rest = (text ≡ []) × (rest ≡ [])
 GivesToken source text (Some token) rest = IsFirstToken source text token rest
 
--- the tokens of the text, which is the end of the source, up to the rest
+-- The tokens of the text, which is the end of the source, up to the rest.
 abbrev pub AreTokens : (source text : List ℕ) → List Token → (rest : List ℕ) → Type 0
 AreTokens source text [] rest = text ≡ rest
 AreTokens source text (token ∷ tokens) rest =
     (next : List ℕ) × IsFirstToken source text token next × AreTokens source next tokens rest
 
--- the texts of the tokens, joined
+-- The texts of the tokens, joined.
 abbrev pub spelled : List Token → List ℕ
 spelled [] = []
 spelled (token ∷ tokens) = token.text.now ++ spelled tokens

@@ -9,12 +9,12 @@ is_white_space c =
     (c == 32) || (nat_le 9 c && nat_le c 13) || (c == 133) || (c == 8206) || (c == 8207)
     || (c == 8232) || (c == 8233)
 
--- the part of the text after the characters at its front that pass
+-- The part of the text after the characters at its front that pass.
 abbrev pub after_while : (ℕ → Bool) → List ℕ → List ℕ
 after_while p [] = []
 after_while p (c ∷ t) = if p c then after_while p t else (c ∷ t)
 
--- the part of the text after the white space at its front
+-- The part of the text after the white space at its front.
 abbrev pub after_white_space : List ℕ → List ℕ
 after_white_space t = after_while is_white_space t
 

@@ -6,7 +6,7 @@ use Rattle.litrs_grammar.specs.Integer.{IntegerParts, IsIntegerOf}
 use Rattle.litrs_grammar.specs.Literal.{Derivation}
 use Rattle.litrs_prefix.specs.Prefix.{HasPrefix}
 
--- a literal is at the front, before a rest that is not empty: every longer text has it there
+-- A literal is at the front, before a rest that is not empty: every longer text has it there.
 abbrev pub IsSettled : List ℕ → Type 0
 IsSettled t = (d : Derivation) × (c : ℕ) × (rest : List ℕ) × HasPrefix t d (c ∷ rest)
 

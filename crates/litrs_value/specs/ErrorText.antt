@@ -11,7 +11,7 @@ use Rattle.litrs_value.specs.declared.value_type.ValueType.TheVariants.{Bool as 
 use Rattle.litrs_value.specs.declared.error.ValueError.{ValueError}
 use Rattle.litrs_value.specs.declared.error.ValueError.TheVariants.{Malformed, Kind, Sign, Suffix, OutOfRange, Memory}
 
--- a kind of literals
+-- A kind of literals.
 abbrev pub literal_kind_text : LiteralKind → List ℕ
 literal_kind_text bool_kind = codes "a bool"
 literal_kind_text integer_kind = codes "an integer"
@@ -22,7 +22,7 @@ literal_kind_text string_kind = codes "a string"
 literal_kind_text byte_string_kind = codes "a byte string"
 literal_kind_text c_string_kind = codes "a C string"
 
--- a type, by its name in Rust
+-- A type, by its name in Rust.
 abbrev pub value_type_text : ValueType → List ℕ
 value_type_text bool_type = codes "bool"
 value_type_text (integer_type t) = type_name t
@@ -33,7 +33,7 @@ value_type_text str_type = codes "&str"
 value_type_text bytes_type = codes "Vec<u8>"
 value_type_text c_string_type = codes "CString"
 
--- an error
+-- An error.
 abbrev pub value_error_text : ValueError → List ℕ
 value_error_text (Malformed e) = kind_text (kind_of e)
 value_error_text (Kind expected found) =

@@ -11,7 +11,7 @@ use Rattle.litrs_value.specs.declared.kind.LiteralKind.TheVariants.{Bool as bool
 use Rattle.litrs_value.specs.declared.value_type.ValueType.{ValueType}
 use Rattle.litrs_value.specs.declared.value_type.ValueType.TheVariants.{Bool as bool_type, Integer as integer_type, Float as float_type, Char as char_type, String as string_type, Str as str_type, Bytes as bytes_type, CString as c_string_type}
 
--- the kind of a literal
+-- The kind of a literal.
 abbrev pub kind_of_literal : Derivation → LiteralKind
 kind_of_literal (a_bool b) = bool_kind
 kind_of_literal (an_integer d) = integer_kind
@@ -22,13 +22,13 @@ kind_of_literal (a_string d) = string_kind
 kind_of_literal (a_byte_string d) = byte_string_kind
 kind_of_literal (a_c_string d) = c_string_kind
 
--- the kind may follow a minus sign
+-- The kind may follow a minus sign.
 abbrev pub is_number : LiteralKind → Bool
 is_number integer_kind = true
 is_number float_kind = true
 is_number kind = false
 
--- the type has values for literals of the kind
+-- The type has values for literals of the kind.
 abbrev pub accepts : ValueType → LiteralKind → Bool
 accepts bool_type bool_kind = true
 accepts (integer_type t) integer_kind = true
@@ -43,7 +43,7 @@ accepts bytes_type c_string_kind = true
 accepts c_string_type c_string_kind = true
 accepts type kind = false
 
--- the base is ten
+-- The base is ten.
 abbrev pub is_decimal : IntegerBase → Bool
 is_decimal Binary = false
 is_decimal Octal = false
@@ -58,11 +58,11 @@ suffix_for (float_type t) (an_integer d) = if is_decimal d.base then float_type_
 suffix_for (float_type t) (a_float d) = float_type_name t
 suffix_for type d = []
 
--- the suffix is empty, or names the type
+-- The suffix is empty, or names the type.
 abbrev pub HasSuffixFor : ValueType → Derivation → Type 0
 HasSuffixFor type d = (suffix_of d ≡ []) ⊎ (suffix_of d ≡ suffix_for type d)
 
--- the type has values for the kind of the literal, the sign and the suffix
+-- The type has values for the kind of the literal, the sign and the suffix.
 pub record Fits (type : ValueType) (negative : Bool) (d : Derivation) : Type 0 where
   pub kind : IsTrue (accepts type (kind_of_literal d))
   pub sign : IsTrue negative → IsTrue (is_number (kind_of_literal d))

@@ -24,7 +24,7 @@ IsPrefixError type text e = IsValueError type (take e.len text) e.error
     × IsFrontFor e.error (chars (unsigned text)) (chars (unsigned (take e.len text)))
     (chars (drop e.len text))
 
--- the text may be cut after the first `len` bytes, and at both ends of the part that is marked
+-- The text may be cut after the first `len` bytes, and at both ends of the part that is marked.
 abbrev pub IsMarkedIn : List ℕ → PrefixError → Type 0
 IsMarkedIn text e = IsCharBoundary text e.len
     × IsCutBy text (marked (chars (take e.len text)) e.error)

@@ -14,24 +14,24 @@ use Rattle.litrs_value.specs.declared.value_type.ValueType.{ValueType}
 use Rattle.litrs_value.specs.declared.error.ValueError.{ValueError}
 use Rattle.litrs_value.specs.declared.error.ValueError.TheVariants.{Malformed, Suffix, Memory}
 
--- the text starts with a minus sign
+-- The text starts with a minus sign.
 abbrev pub is_negative : List ℕ → Bool
 is_negative text = slice_index text 0 == minus
 
--- the length of the sign, in bytes
+-- The length of the sign, in bytes.
 abbrev pub sign_len : List ℕ → ℕ
 sign_len text = if is_negative text then 1 else 0
 
--- the text of a sign
+-- The text of a sign.
 abbrev pub sign_text : (negative : Bool) → List ℕ
 sign_text true = codes "-"
 sign_text false = []
 
--- the rest of the text after its sign
+-- The rest of the text after its sign.
 abbrev pub unsigned : List ℕ → List ℕ
 unsigned text = drop (sign_len text) text
 
--- the rest of the text after its sign is this literal
+-- The rest of the text after its sign is this literal.
 abbrev pub IsReadAs : List ℕ → Derivation → Type 0
 IsReadAs text d = IsLiteral (chars (unsigned text)) d
 
@@ -56,7 +56,7 @@ IsValueError type text Memory = (d : Derivation) × IsReadAs text d
     ⊎ Refuses type (is_negative text) d Memory)
 IsValueError type text e = (d : Derivation) × IsReadAs text d × Refuses type (is_negative text) d e
 
--- the part of the text that an error marks
+-- The part of the text that an error marks.
 abbrev pub marked : List ℕ → ValueError → Range ℕ
 marked t (Malformed e) = marked_span t e
 marked t (Suffix type len) = record { start = byte_len t - len; end = byte_len t }

@@ -24,11 +24,11 @@ IsInRange (float_type t) negative d =
     (x : Float) × (float_of (format_of t) negative d ≡ Some x) × IsTrue (float_is_finite x)
 IsInRange type negative d = ⊤
 
--- the type has a value for the literal
+-- The type has a value for the literal.
 abbrev pub HasValueOf : ValueType → (negative : Bool) → Derivation → Type 0
 HasValueOf type negative d = Fits type negative d × IsInRange type negative d
 
--- the integer has an underscore, and is in base ten and too large for `u64`
+-- The integer has an underscore, and is in base ten and too large for `u64`.
 abbrev pub IsLargeWithUnderscore : IntegerParts → Type 0
 IsLargeWithUnderscore d = IsTrue (list_any is_underscore d.main) × (d.base ≡ Decimal)
     × (2 ^ 64 ≤ integer_value d)

@@ -47,7 +47,7 @@ pub data IsWord (word : Word) : (text : List ℕ) → Type 0 where
       word.at.now ≡ text → word.text.now ≡ token.text.now → IsWord word text
   at_end : (text : List ℕ) → text ≡ [] → word.at.now ≡ [] → word.text.now ≡ [] → IsWord word text
 
--- the problem with a word that is not what is expected
+-- The problem with a word that is not what is expected.
 abbrev pub IsProblem : Problem → (expected text : List ℕ) → Type 0
 IsProblem OpenComment expected text = (body : List ℕ) × (text ≡ codes "/*" ++ body)
 IsProblem (Expected what) expected text =
@@ -60,7 +60,7 @@ abbrev pub IsUnexpected : (expected at text : List ℕ) → Fault → Type 0
 IsUnexpected expected at text fault = IsProblem fault.problem expected text × (fault.at.now ≡ at)
     × (fault.span ≡ record { start = 0; end = length text })
 
--- the settings of this name have values of this type
+-- The settings of this name have values of this type.
 pub data IsNamed (name : List ℕ) (type : ValueType) : Type 0 where
   is_max : name ≡ codes "max" → type ≡ integer_type U16 → IsNamed name type
   is_offset : name ≡ codes "offset" → type ≡ integer_type I64 → IsNamed name type
@@ -68,7 +68,7 @@ pub data IsNamed (name : List ℕ) (type : ValueType) : Type 0 where
   is_rename : name ≡ codes "rename" → type ≡ string_type → IsNamed name type
   is_skip : name ≡ codes "skip" → type ≡ bool_type → IsNamed name type
 
--- the text starts with `=`, before this word
+-- The text starts with `=`, before this word.
 abbrev pub HasEquals : (text : List ℕ) → (first : Word) → Type 0
 HasEquals text first = (equals : Word) × IsWord equals text × (equals.text.now ≡ codes "=")
     × IsWord first equals.rest.now
@@ -98,7 +98,7 @@ pub record IsTyped {X : Type 0} (type : ValueType) (IsValue : Bool → Derivatio
   pub ends : (comma.text.now ≡ codes ",") ⊎ (comma.text.now ≡ [])
   pub left : comma.rest.now ≡ rest
 
--- the word is the name of the setting, whose value follows, before this rest
+-- The word is the name of the setting, whose value follows, before this rest.
 abbrev pub BeginsWith : (name : Word) → Setting → (rest : List ℕ) → Type 0
 BeginsWith name (Max n) rest = (name.text.now ≡ codes "max")
     × IsTyped (integer_type U16) (λ negative d x. number_of negative d ≡ Some (pos x))
@@ -114,7 +114,7 @@ BeginsWith name (Rename text) rest = (name.text.now ≡ codes "rename")
 BeginsWith name (Skip b) rest = (name.text.now ≡ codes "skip")
     × IsTyped bool_type (λ _ d x. flag_of d ≡ Some x) name.rest.now b rest
 
--- the text is these settings, before this word
+-- The text is these settings, before this word.
 abbrev pub LeavesAfter : (text : List ℕ) → List Setting → Word → Type 0
 LeavesAfter text [] last = IsWord last text
 LeavesAfter text (setting ∷ settings) last = (name : Word) × (rest : List ℕ)
@@ -147,20 +147,20 @@ pub data IsFaultOf (name : Word) (fault : Fault) : Type 0 where
   of_value : (type : ValueType) → IsNamed name.text.now type →
       IsValueFault type name.rest.now fault → IsFaultOf name fault
 
--- the settings end at this word: at the end of the line, or at a word with a fault
+-- The settings end at this word: at the end of the line, or at a word with a fault.
 abbrev pub EndsAt : Option Fault → Word → Type 0
 EndsAt None word = word.text.now ≡ []
 EndsAt (Some fault) word = (word.text.now ≢ []) × IsFaultOf word fault
 
--- the line is these settings, and then this fault or nothing
+-- The line is these settings, and then this fault or nothing.
 abbrev pub HasSettings : (line : List ℕ) → List Setting → Option Fault → Type 0
 HasSettings line settings fault = (end : Word) × LeavesAfter line settings end × EndsAt fault end
 
--- the fault is at an end of the line
+-- The fault is at an end of the line.
 abbrev pub IsIn : (line : List ℕ) → Fault → Type 0
 IsIn line fault = IsEndOf line fault.at.now
 
--- the fault is of the line: no allocation failed
+-- The fault is of the line: no allocation failed.
 abbrev pub IsNoFailure : Fault → Type 0
 IsNoFailure fault = fault.problem ≢ Value Memory
 
@@ -174,7 +174,7 @@ Describes (Rename text) written = (literal : List ℕ) × (written ≡ codes "re
     × (chars literal ≡ string_text string_kind (written_string (chars (string_bytes text)) []))
 Describes (Skip b) written = written ≡ codes "skip is " ++ bool_text b
 
--- the message of a problem
+-- The message of a problem.
 abbrev pub problem_text : Problem → List ℕ
 problem_text (Expected expected) = codes "expected " ++ expected.now
 problem_text OpenComment = codes "unterminated block comment"
@@ -189,6 +189,6 @@ Shows line number fault written = chars written
     (length line - length fault.at.now + fault.span.end) (problem_text fault.problem))
     { first_line = number; first_column = 1; width = 100 })
 
--- each character is printable or a line feed
+-- Each character is printable or a line feed.
 abbrev pub IsPrintable : (written : List ℕ) → Type 0
 IsPrintable written = IsTrue (list_all is_line_feed_or_printable (chars written))

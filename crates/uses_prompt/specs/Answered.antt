@@ -23,7 +23,7 @@ hint [] = codes
     "the literal continues on the next line; :cancel drops it, :quit or Ctrl-D ends\n"
 hint (c ∷ held) = []
 
--- the lines on the refusal of a text
+-- The lines on the refusal of a text.
 abbrev pub ShowsRefusal : (text : List ℕ) → ParseError → (answer : List ℕ) → Type 0
 ShowsRefusal text e answer = chars answer ≡ refusal_text (codes "prompt") text e 100
 
@@ -56,7 +56,7 @@ IsWithoutReturn line stripped = (line ≡ stripped ++ 13 ∷ [])
 abbrev pub Quits : (line : List ℕ) → Type 0
 Quits line = IsWithoutReturn line (codes ":quit")
 
--- the answer to a line that is not UTF-8: the index of the first byte that is not
+-- The answer to a line that is not UTF-8: the index of the first byte that is not.
 abbrev pub ignored_text : List ℕ → List ℕ
 ignored_text line =
     codes "not UTF-8 at byte " ++ (decimal (utf8_valid_len line) ++ codes ": ignored\n")
@@ -68,7 +68,7 @@ pub record IsReply (held line after answer : List ℕ) : Type 0 where
       (stripped : List ℕ) × IsWithoutReturn line stripped × IsAnswered held stripped after answer
   pub ignored : ¬ IsUtf8 line → (after ≡ held) × (answer ≡ ignored_text line)
 
--- at the end: the refusal of the lines that are held, if any is
+-- At the end: the refusal of the lines that are held, if any is.
 abbrev pub IsLastAnswer : (held answer : List ℕ) → Type 0
 IsLastAnswer [] answer = answer ≡ []
 IsLastAnswer (c ∷ held) answer =
