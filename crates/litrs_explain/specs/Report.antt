@@ -57,7 +57,8 @@ pub record IsSignNote (text note : List ℕ) : Type 0 where
   pub other : ¬ IsNegated integer_literal text → ¬ IsNegated float_literal text → note ≡ []
 
 -- The report ends with this message, perhaps in color, and the line on more text, after the text
--- `front`. If the kind is `InvalidLiteral`, the line on a sign follows, for the text that is marked.
+-- `front`. If the kind is `InvalidLiteral`, the line on a sign follows, for the text that is
+-- marked.
 pub record IsProblemReport
     (front : List ℕ) (is_colored : Bool) (m : Message) (kind : Option ParseErrorKind)
     (is_incomplete : Bool) (marked report : List ℕ) : Type 0 where
