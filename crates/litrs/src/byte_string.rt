@@ -212,7 +212,6 @@ impl ByteStringLit<&str> {
     }
 }
 
-/// Clones `value`.
 fn copy_value(alloc: Global, value: &KeptValue<Vec<u8>>) -> Result<KeptValue<Vec<u8>>, AllocError>
     ensures bytes { IfOk result (λ copy.
         kept_map vec_items copy ≡ kept_map vec_items value.now) }

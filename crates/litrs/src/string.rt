@@ -238,7 +238,6 @@ impl StringLit<&str> {
     }
 }
 
-/// Clones `value`.
 fn copy_value(alloc: Global, value: &KeptValue<String>) -> Result<KeptValue<String>, AllocError>
     ensures bytes { IfOk result (λ copy.
         kept_map string_bytes copy ≡ kept_map string_bytes value.now) }

@@ -43,7 +43,6 @@ pub(crate) fn read_item(rest: &str, allowed: Switches) -> (BodyItem, usize)
     }
 }
 
-/// Returns `true` if `bytes` starts with `byte`.
 pub(crate) fn starts_with(bytes: &[u8], byte: u8) -> bool
     ensures { result ≡ first_passes (λ c. c == byte) bytes.now }
 {

@@ -48,7 +48,6 @@ pub fn byte_string(
     }
 }
 
-/// Writes the text of a byte string.
 fn write_byte_string(alloc: Global, value: &[u8], suffix: &str) -> Result<String, BuildError>
     ensures text { IfOk result (λ text. string_bytes text ≡ ((codes "b\""
         ++ encode_utf8_all (body_text (byte_items value.now))) ++ 34 ∷ []) ++ suffix.now) }

@@ -46,7 +46,6 @@ pub fn c_string(alloc: Global, value: &[u8], suffix: &str) -> Result<CStringLit<
     }
 }
 
-/// Writes the text of a C string.
 fn write_c_string(alloc: Global, value: &[u8], suffix: &str) -> Result<String, BuildError>
     ensures text { IfOk result (λ text. string_bytes text ≡ ((codes "c\""
         ++ encode_utf8_all (body_text (c_items 0 true value.now))) ++ 34 ∷ []) ++ suffix.now) }

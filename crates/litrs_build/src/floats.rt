@@ -264,7 +264,6 @@ fn push_after_period(text: &mut String, digits: &str) -> Result<(), AllocError>
     Ok(())
 }
 
-/// Appends a part.
 fn push_part(text: &mut String, part: &str) -> Result<(), AllocError>
     ensures { OnOk result (chars (string_bytes text.new)
         ≡ chars (string_bytes text.old) ++ chars part.now) }

@@ -32,7 +32,6 @@ pub(crate) enum Piece<'a> {
 }
 
 impl<'a> Piece<'a> {
-    /// Returns `true` if it is an escape.
     #[inline(always)]
     pub(crate) fn is_escape(self) -> bool
         ensures { result ≡ is_escape self.entry }
@@ -128,7 +127,6 @@ fn short_plain_len(bytes: &[u8], charset: Charset) -> usize
     bytes.iter().take_while(|b| is_plain(**b, charset)).count()
 }
 
-/// Returns `true` if the byte is plain.
 #[inline(always)]
 fn is_plain(byte: u8, charset: Charset) -> bool
     ensures { result ≡ is_plain charset byte }

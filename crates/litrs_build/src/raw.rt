@@ -155,7 +155,6 @@ fn write_raw(
     Ok(text)
 }
 
-/// Writes the text of a raw byte string.
 fn write_raw_bytes(alloc: Global, value: &[u8], suffix: &str) -> Result<String, BuildError>
     ensures text { IfOk result (λ text.
         let hashes = replicate (hashes_needed (chars value.now)) 35 in
@@ -172,7 +171,6 @@ fn write_raw_bytes(alloc: Global, value: &[u8], suffix: &str) -> Result<String, 
     }
 }
 
-/// Writes the text of a raw C string.
 fn write_raw_c(alloc: Global, value: &[u8], suffix: &str) -> Result<String, BuildError>
     ensures text { IfOk result (λ text.
         let hashes = replicate (hashes_needed (chars value.now)) 35 in
@@ -266,7 +264,6 @@ fn greater(a: usize, b: usize) -> usize
     if a < b { b } else { a }
 }
 
-/// Appends `count` hashes.
 fn push_hashes(text: &mut String, count: usize) -> Result<(), AllocError>
     ensures { OnOk result (string_bytes text.new ≡ string_bytes text.old ++ replicate count 35) }
 {

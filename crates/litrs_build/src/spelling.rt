@@ -50,7 +50,6 @@ impl Spelling {
         }
     }
 
-    /// Returns `true` if it is an escape.
     pub(crate) fn is_escaped(self) -> bool
         ensures { result ≡ is_escaped self }
     {

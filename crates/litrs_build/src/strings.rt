@@ -44,7 +44,6 @@ pub fn string(alloc: Global, value: &str, suffix: &str) -> Result<StringLit<Stri
     }
 }
 
-/// Writes the text of a string.
 fn write_string(alloc: Global, value: &str, suffix: &str) -> Result<String, BuildError>
     ensures text { IfOk result (λ text. string_bytes text ≡ ((codes "\""
         ++ encode_utf8_all (body_text (char_items true (chars value.now)))) ++ 34 ∷ [])

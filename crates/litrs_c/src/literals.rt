@@ -71,7 +71,6 @@ pub(crate) fn write_literal_fields(lit: &Literal<&str>, fields: &mut LiteralFiel
     }
 }
 
-/// Returns the place of the suffix.
 #[inline(always)]
 fn suffix_place(lit: &Literal<&str>) -> Place
     ensures { IsSuffixPlace (length (literal_raw lit.now)) (derivation lit.now) result }
@@ -115,7 +114,6 @@ fn string_fields(kind: u32, is_raw: bool, suffix: Place) -> LiteralFields
     }
 }
 
-/// Returns the fields of an integer.
 #[inline(always)]
 fn integer_fields(lit: &IntegerLit<&str>, suffix: Place) -> LiteralFields
     requires { IsSuffixPlace (length lit.now.raw) (an_integer (integer_parts lit.now)) suffix }
@@ -156,7 +154,6 @@ fn place_of(start: usize, part: &str) -> Place
     }
 }
 
-/// Returns the fields of a float.
 #[inline(always)]
 fn float_fields(lit: &FloatLit<&str>, suffix: Place) -> LiteralFields
     requires { IsSuffixPlace (length lit.now.raw) (a_float (float_parts lit.now)) suffix }
@@ -183,7 +180,6 @@ fn fraction_place(lit: &FloatLit<&str>) -> Place
     }
 }
 
-/// Returns the place of the exponent.
 fn exponent_place(lit: &FloatLit<&str>) -> Place
     ensures { result ≡ exponent_place (a_float (float_parts lit.now)) }
 {

@@ -18,7 +18,6 @@ pub(crate) const NO_REFUSAL: RefusalFields = RefusalFields {
     char_span: NOWHERE,
 };
 
-/// Writes the fields of `error` to `fields`.
 #[inline(always)]
 pub(crate) fn write_refusal_fields(error: &ParseError, fields: &mut RefusalFields)
     ensures { IsRefusalFields error.now fields.new }
@@ -38,7 +37,6 @@ pub(crate) fn write_refusal_fields(error: &ParseError, fields: &mut RefusalField
     }
 }
 
-/// Returns the place of a span.
 #[inline(always)]
 fn span_place(span: Option<Range<usize>>) -> Place
     ensures { result ≡ span_place span }

@@ -56,7 +56,6 @@ pub extern "C" fn litrs_check<'a>(text: &'a [u8], cursor: &mut Cursor<'a>) -> bo
     }
 }
 
-/// Returns the cursor at the start of `text`.
 fn cursor_at_start(text: &str) -> Cursor<'_>
     ensures text { result.text.now ≡ text.now }
     ensures start { result.at ≡ 0 }
@@ -120,7 +119,6 @@ fn start_of(text: &[u8], rest: &str) -> usize
     text.len() - rest.len()
 }
 
-/// Returns the fields of `token`.
 #[inline(always)]
 fn token_fields(token: &Token<'_>) -> TokenFields
     ensures { IsTokenFields token.now result }

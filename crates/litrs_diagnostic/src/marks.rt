@@ -232,7 +232,6 @@ fn write_below<W: fmt::Write>(f: &mut fmt::Formatter<W>, text: &str, glyph: Glyp
     Ok(())
 }
 
-/// Writes `glyph` `count` times.
 fn write_times<W: fmt::Write>(f: &mut fmt::Formatter<W>, glyph: Glyph, count: usize) -> fmt::Result
     ensures { WritesOnOk W.write_str_gives f.old result
         (encode_utf8_all (replicate count (glyph_char glyph))) f.new }

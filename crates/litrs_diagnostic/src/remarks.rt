@@ -47,7 +47,6 @@ impl fmt::Display for Remarks<'_> {
     }
 }
 
-/// Writes the lines of `remarks`.
 fn write_remarks<W: fmt::Write>(
     f: &mut fmt::Formatter<W>,
     frame: Frame,

@@ -58,7 +58,6 @@ fn text_of(alloc: Global, bytes: &[u8]) -> Result<String, AllocError> {
     Ok(text)
 }
 
-/// Returns `true` if the argument is UTF-8.
 pub(crate) fn is_utf8(argument: &str) -> bool {
     !argument.contains(ESCAPE)
 }

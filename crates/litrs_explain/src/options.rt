@@ -140,7 +140,6 @@ pub(crate) fn options_of(matches: &ArgMatches<'_>, terminal: Terminal) -> Option
     }
 }
 
-/// Returns `true` if reports are colored.
 fn is_colored(choice: ColorChoice, terminal: Terminal) -> bool
     ensures always { choice ≡ Always → result ≡ true }
     ensures never { choice ≡ Never → result ≡ false }

@@ -29,7 +29,6 @@ impl Output {
         }
     }
 
-    /// Adds a report.
     pub(crate) fn add(&mut self, report: &str) -> Result<(), Error> {
         if report.len() >= BUFFER_LEN {
             self.flush()?;
@@ -63,7 +62,6 @@ impl Output {
         written
     }
 
-    /// Writes a text.
     fn write(&self, text: &str) -> Result<(), Error> {
         io::writer(&self.rt)
             .write_all(text.as_bytes())

@@ -251,7 +251,6 @@ impl<'a> Run<'a> {
         }
     }
 
-    /// Explains the lines of an input.
     fn explain_lines<F: Read + Drop>(&mut self, input: F) -> Result<(), Error> {
         let mut reader = BufReader::new(self.rt.alloc(), input).map_err(Error::Input)?;
         let mut line = Vec::new(self.rt.alloc());

@@ -154,7 +154,6 @@ impl<'a> Reports<'a> {
         self.output.end_report()
     }
 
-    /// Adds the JSON object of a literal.
     pub(crate) fn add_literal_object<B: Buffer>(
         &mut self,
         span: &Span,

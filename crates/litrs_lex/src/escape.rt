@@ -184,7 +184,6 @@ fn unescape_unicode(input: &str, allowed: Switches) -> Parsed
     }
 }
 
-/// Returns `true` if `bytes` starts with a hex digit.
 fn begins_with_hex_digit(bytes: &[u8]) -> bool
     ensures { result ≡ first_passes is_ascii_hexdigit bytes.now }
 {

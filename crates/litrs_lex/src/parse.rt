@@ -53,7 +53,6 @@ pub fn first_byte_or_empty(s: &str) -> Result<u8, ParseError>
     }
 }
 
-/// Returns `true` if `bytes` starts with `byte`.
 #[inline(always)]
 pub(crate) fn begins_with_byte(bytes: &[u8], byte: u8) -> bool
     ensures { result ≡ first_passes (λ c. c == byte) bytes.now }
@@ -91,7 +90,6 @@ fn continues_in_unicode(rest: &str) -> bool
     rest.chars().all(|c| unicode_ident::is_xid_continue(c))
 }
 
-/// Returns `true` if `s` is a suffix.
 fn is_suffix(s: &str) -> bool
     ensures { result ≡ is_suffix (chars s.now) }
 {

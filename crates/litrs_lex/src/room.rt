@@ -39,7 +39,6 @@ impl<const N: usize> Room<N> {
         }
     }
 
-    /// Returns the bytes of the value.
     #[inline(always)]
     pub(crate) fn as_bytes(&self) -> &[u8]
         ensures { result.now ≡ self.now }

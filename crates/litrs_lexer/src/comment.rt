@@ -154,7 +154,6 @@ fn block_doc(text: &str) -> Option<DocStyle>
     }
 }
 
-/// Returns `true` if `text` starts with `/`.
 fn starts_with_slash(text: &str) -> bool
     ensures { result ≡ first_passes is_slash (chars text.now) }
 {
@@ -164,7 +163,6 @@ fn starts_with_slash(text: &str) -> bool
     }
 }
 
-/// Returns `true` if `text` starts with `*` or `/`.
 fn starts_with_star_or_slash(text: &str) -> bool
     ensures { result ≡ first_passes is_star_or_slash (chars text.now) }
 {

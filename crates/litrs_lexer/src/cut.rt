@@ -132,7 +132,6 @@ fn begins_ascii_name(c: char) -> bool
     c.is_ascii_alphabetic() || c == '_'
 }
 
-/// Returns `true` if the character is punctuation.
 #[inline(always)]
 fn is_punctuation(c: char) -> bool
     ensures { result ≡ is_punctuation c }

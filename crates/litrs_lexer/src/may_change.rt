@@ -71,7 +71,6 @@ fn is_open(kind: TokenKind, text: &str, rest: &str) -> bool
     }
 }
 
-/// Returns `true` if `text` is `/`.
 fn is_slash(text: &str) -> bool
     ensures { result ≡ is_text (codes "/") (chars text.now) }
 {
@@ -85,7 +84,6 @@ fn is_raw_lifetime_front(text: &str) -> bool
     text == "'r#"
 }
 
-/// Returns `true` if `text` is empty.
 fn is_empty(text: &str) -> bool
     ensures { result ≡ is_empty (chars text.now) }
 {

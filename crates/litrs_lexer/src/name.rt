@@ -98,7 +98,6 @@ pub fn starts_with_quote_or_hash(text: &str) -> bool
     }
 }
 
-/// Returns `true` if the byte is `"`, `'` or `#`.
 #[inline(always)]
 fn is_quote_or_hash(b: u8) -> bool
     ensures { result ≡ is_quote_or_hash b }

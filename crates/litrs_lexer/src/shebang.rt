@@ -38,7 +38,6 @@ pub fn strip_shebang(text: &str) -> &str
     }
 }
 
-/// Returns `text` without a byte order mark at its front.
 fn without_byte_order_mark(text: &str) -> &str
     ensures rest { chars result.now ≡ after_byte_order_mark (chars text.now) }
     ensures end { IsEndOf text.now result.now }
@@ -98,7 +97,6 @@ fn is_skipped(kind: TokenKind, text: &str) -> bool
     kind.is_trivia() && doc_style(kind, text).is_none()
 }
 
-/// Returns `true` if `text` starts with `[`.
 fn starts_with_bracket(text: &str) -> bool
     ensures { result ≡ first_passes is_bracket (chars text.now) }
 {

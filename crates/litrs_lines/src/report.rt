@@ -102,7 +102,6 @@ fn hex_value<B: Buffer>(lit: &Literal<B>) -> &[u8]
     }
 }
 
-/// Adds the report on an integer.
 fn push_integer_report<B: Buffer>(out: &mut String, lit: &IntegerLit<B>) -> Result<(), AllocError>
     ensures { OnOk result (
         string_bytes out.new
@@ -148,7 +147,6 @@ fn push_integer_value<B: Buffer>(out: &mut String, lit: &IntegerLit<B>) -> Resul
     }
 }
 
-/// Adds the report on a float.
 fn push_float_report<B: Buffer>(out: &mut String, lit: &FloatLit<B>) -> Result<(), AllocError>
     ensures { OnOk result (
         string_bytes out.new
@@ -191,7 +189,6 @@ fn push_float_parts(
     )
 }
 
-/// Adds the report on a char.
 fn push_char_report<B: Buffer>(out: &mut String, lit: &CharLit<B>) -> Result<(), AllocError>
     ensures { OnOk result (
         string_bytes out.new
@@ -200,7 +197,6 @@ fn push_char_report<B: Buffer>(out: &mut String, lit: &CharLit<B>) -> Result<(),
     push_char_parts(out, "char", u32::from(lit.value()), lit.suffix())
 }
 
-/// Adds the report on a byte.
 fn push_byte_report<B: Buffer>(out: &mut String, lit: &ByteLit<B>) -> Result<(), AllocError>
     ensures { OnOk result (
         string_bytes out.new

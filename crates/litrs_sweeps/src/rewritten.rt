@@ -81,7 +81,6 @@ fn is_no_longer_anew(alloc: Global, lit: &Literal<&str>) -> bool {
     }
 }
 
-/// Returns the length of a literal.
 fn length<B: Buffer>(lit: &Literal<B>) -> usize {
     lit.raw_input().len()
 }

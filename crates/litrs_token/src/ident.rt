@@ -113,7 +113,6 @@ impl Ident {
     }
 }
 
-/// Returns `true` if `text` is an identifier.
 fn is_ident(text: &str) -> bool
     ensures { result ≡ is_ident (chars text.now) }
 {

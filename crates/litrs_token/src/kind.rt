@@ -127,7 +127,6 @@ fn raw_kind(text: &str, kind: StringKind) -> Option<TokenKind>
     }
 }
 
-/// Returns the kind of token that a string of `kind` is.
 fn string_token_kind(kind: StringKind) -> TokenKind
     ensures { result ≡ token_kind (string_literal_of kind) }
 {

@@ -53,7 +53,6 @@ pub(crate) fn number<F: FastFloat>(
     }
 }
 
-/// Returns the float with the sign.
 fn with_sign<F: FastFloat>(negative: bool, value: F) -> F
     ensures { F.value result ≡ with_sign negative (F.value value) }
 {
@@ -144,7 +143,6 @@ fn read_digits<F: FastFloat>(alloc: Global, part: &[u8]) -> Result<F, AllocError
     }
 }
 
-/// Returns the bytes of the number part.
 fn number_bytes<B: Text>(lit: &FloatLit<B>) -> &[u8]
     ensures part { result.now ≡ number_part (float_parts lit.now) }
     ensures float { IsFloat (float_parts lit.now) }
@@ -155,14 +153,12 @@ fn number_bytes<B: Text>(lit: &FloatLit<B>) -> &[u8]
     part.as_bytes()
 }
 
-/// Returns `true` if the bytes contain an underscore.
 fn has_underscore(part: &[u8]) -> bool
     ensures { result ≡ list_any is_underscore part.now }
 {
     part.iter().any(|byte| *byte == b'_')
 }
 
-/// Returns the bytes that are not underscores.
 fn without_underscores(alloc: Global, part: &[u8]) -> Result<Vec<u8>, AllocError>
     ensures { IfOk result (λ digits. digits.items ≡ filter is_no_underscore part.now) }
 {

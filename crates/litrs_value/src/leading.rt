@@ -132,7 +132,6 @@ fn rounded<F: FastFloat>(leading: &Leading) -> F
     scaled(significand, F::LOWEST + dropped, leading.shift)
 }
 
-/// Returns 2^`exponent`.
 fn power_of_two(exponent: u64) -> u64
     requires { exponent ≤ 63 }
     ensures { result ≡ 2 ^ exponent }

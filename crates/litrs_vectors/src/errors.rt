@@ -20,7 +20,6 @@ fn are_said(fields: &str, answer: &[u8]) -> bool {
     answer == fields.as_bytes() || answer == others.as_bytes()
 }
 
-/// Returns the fields of an error.
 fn fields_of(alloc: Global, error: &ParseError) -> Result<String, AllocError> {
     let kind = error.kind();
     match (error.span(), error.char_span()) {

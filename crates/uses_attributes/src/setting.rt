@@ -119,7 +119,6 @@ fn typed<T: FromLiteral + Drop>(alloc: Global, text: &str) -> Result<(T, &str), 
     }
 }
 
-/// Returns the first word of `text`.
 fn first_word(text: &str) -> Word<'_>
     ensures { IsWord result text.now }
 {
