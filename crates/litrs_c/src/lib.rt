@@ -23,7 +23,7 @@ use message::write_refusal;
 use prefix::parse_prefix_text;
 use refusals::{NO_REFUSAL, write_refusal_fields};
 use std::alloc::Global;
-use std::str;
+use utf8::from_utf8;
 
 mod literals;
 mod message;
@@ -33,6 +33,7 @@ mod refusals;
 mod room;
 mod static_texts;
 mod tokens;
+mod utf8;
 mod write;
 
 /// The text, or its front, is a literal, or a literal was written.
@@ -166,7 +167,7 @@ pub extern "C" fn litrs_parse(alloc: Global, text: &[u8]) -> Answer
     ensures no_literal { result.status ≢ LITERAL → result.literal ≡ NO_LITERAL }
     ensures no_refusal { result.status ≢ REFUSED → result.refusal ≡ NO_REFUSAL }
 {
-    let Ok(text) = str::from_utf8(text) else {
+    let Ok(text) = from_utf8(text) else {
         return only_status(NOT_UTF8);
     };
     // Each arm returns, so that the answer is written once, into the memory of the caller.
@@ -204,7 +205,7 @@ pub extern "C" fn litrs_parse_into(alloc: Global, text: &[u8], answer: &mut Answ
     ensures no_literal { answer.new.status ≢ LITERAL → answer.new.literal ≡ answer.old.literal }
     ensures no_refusal { answer.new.status ≢ REFUSED → answer.new.refusal ≡ answer.old.refusal }
 {
-    match str::from_utf8(text) {
+    match from_utf8(text) {
         Ok(text) => parse_text(alloc, text, answer),
         Err(_) => answer.status = NOT_UTF8,
     }
@@ -299,7 +300,7 @@ pub extern "C" fn litrs_parse_prefix_into(alloc: Global, text: &[u8], answer: &m
     ensures no_literal { answer.new.status ≢ LITERAL → answer.new.literal ≡ answer.old.literal }
     ensures no_refusal { answer.new.status ≢ REFUSED → answer.new.refusal ≡ answer.old.refusal }
 {
-    match str::from_utf8(text) {
+    match from_utf8(text) {
         Ok(text) => parse_prefix_text(alloc, text, answer),
         Err(_) => {
             answer.status = NOT_UTF8;
@@ -314,7 +315,7 @@ pub extern "C" fn litrs_parse_prefix_into(alloc: Global, text: &[u8], answer: &m
 pub extern "C" fn litrs_goes_on(text: &[u8]) -> bool
     ensures { IsTrue result ↔ (IsUtf8 text.now × Begins literal_parse (chars text.now)) }
 {
-    match str::from_utf8(text) {
+    match from_utf8(text) {
         Ok(text) => litrs::goes_on(text),
         Err(_) => false,
     }
@@ -335,7 +336,7 @@ pub extern "C" fn litrs_value(alloc: Global, text: &[u8], room: &mut [u8]) -> Wr
     ensures memory { result.status ≡ OUT_OF_MEMORY → MayLackMemory (chars text.now) }
     ensures kept { result.status ≢ LITERAL → IsKept room.old room.new result.len }
 {
-    match str::from_utf8(text) {
+    match from_utf8(text) {
         Ok(text) => write_value(alloc, text, room),
         Err(_) => nothing(NOT_UTF8),
     }
@@ -393,7 +394,7 @@ pub extern "C" fn litrs_message(alloc: Global, text: &[u8], room: &mut [u8]) -> 
     ensures memory { result.status ≡ OUT_OF_MEMORY → MayLackMemory (chars text.now) }
     ensures kept { result.status ≢ REFUSED → IsKept room.old room.new result.len }
 {
-    match str::from_utf8(text) {
+    match from_utf8(text) {
         Ok(text) => write_message(alloc, text, room),
         Err(_) => nothing(NOT_UTF8),
     }

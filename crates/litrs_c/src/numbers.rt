@@ -9,12 +9,12 @@ ghost use Rattle.litrs_value.specs.Values.{float_of};
 ghost use Rattle.litrs_c.specs.Answers.{IsLiteralAnd};
 ghost use Rattle.litrs_c.specs.Numbers.{IsCopied, LacksNumberMemory};
 
+use crate::utf8::from_utf8;
 use crate::{LITERAL, NO_NUMBER, NOT_UTF8, OUT_OF_MEMORY, REFUSED};
 use fast_float::FastFloat;
 use litrs::{Literal, ParseErrorKind};
 use litrs_value::{float, integer_float};
 use std::alloc::{AllocError, Global};
-use std::str;
 
 /// Writes the `f64` nearest to an integer or a float to `value`, and returns the status.
 ///
@@ -37,7 +37,7 @@ pub extern "C" fn litrs_f64(alloc: Global, text: &[u8], value: &mut f64) -> u32
     ensures memory { result ≡ OUT_OF_MEMORY → LacksNumberMemory (chars text.now) }
     ensures kept { result ≢ LITERAL → value.new ≡ value.old }
 {
-    match str::from_utf8(text) {
+    match from_utf8(text) {
         Ok(text) => write_number::<f64>(alloc, text, value),
         Err(_) => NOT_UTF8,
     }
@@ -57,7 +57,7 @@ pub extern "C" fn litrs_f32(alloc: Global, text: &[u8], value: &mut f32) -> u32
     ensures memory { result ≡ OUT_OF_MEMORY → LacksNumberMemory (chars text.now) }
     ensures kept { result ≢ LITERAL → value.new ≡ value.old }
 {
-    match str::from_utf8(text) {
+    match from_utf8(text) {
         Ok(text) => write_number::<f32>(alloc, text, value),
         Err(_) => NOT_UTF8,
     }

@@ -11,11 +11,11 @@ ghost use Rattle.litrs_c.specs.LiteralFields.{bytes_of, number_of};
 ghost use Rattle.litrs_c.specs.Writes.{WritesLiteral, decimal, error_status};
 
 use crate::literals::HALF;
+use crate::utf8::from_utf8;
 use crate::{LITERAL, NOT_UTF8, OUT_OF_MEMORY, REFUSED, Written, nothing, room};
 use litrs::IntegerBase;
 use litrs_build::{BuildError, byte_string, integer, string};
 use std::alloc::Global;
-use std::str;
 
 /// Writes the string with the value `value` and the suffix `suffix`, which may be empty, to `room`,
 /// as much as fits: for example `"a\nb"`. The status is `REFUSED` if `suffix` is not a suffix,
@@ -38,7 +38,7 @@ pub extern "C" fn litrs_write_string(
     ensures memory { result.status ≡ OUT_OF_MEMORY → IsTrue (is_suffix (chars suffix.now)) }
     ensures kept { result.status ≢ LITERAL → IsKept room.old room.new result.len }
 {
-    let (Ok(value), Ok(suffix)) = (str::from_utf8(value), str::from_utf8(suffix)) else {
+    let (Ok(value), Ok(suffix)) = (from_utf8(value), from_utf8(suffix)) else {
         return nothing(NOT_UTF8);
     };
     match string(alloc, value, suffix) {
@@ -70,7 +70,7 @@ pub extern "C" fn litrs_write_bytes(
     ensures memory { result.status ≡ OUT_OF_MEMORY → IsTrue (is_suffix (chars suffix.now)) }
     ensures kept { result.status ≢ LITERAL → IsKept room.old room.new result.len }
 {
-    let Ok(suffix) = str::from_utf8(suffix) else {
+    let Ok(suffix) = from_utf8(suffix) else {
         return nothing(NOT_UTF8);
     };
     match byte_string(alloc, value, suffix) {
@@ -105,7 +105,7 @@ pub extern "C" fn litrs_write_integer(
         → ¬ NoIntegerHasSuffix Decimal (chars suffix.now) }
     ensures kept { result.status ≢ LITERAL → IsKept room.old room.new result.len }
 {
-    let Ok(suffix) = str::from_utf8(suffix) else {
+    let Ok(suffix) = from_utf8(suffix) else {
         return nothing(NOT_UTF8);
     };
     let value = u128::from(value_low) + HALF * u128::from(value_high);
