@@ -1,7 +1,7 @@
 -- The longest prefix of a list whose elements pass a test.
-use Rattle.std.proofs.Common.{◌≡◌, ℕ, suc, ◌+◌, ◌≤◌, Bool, true, false, cond, List, [], ◌∷◌, ◌++◌, length, refl, sym, ap, subst, ◌∙◌, arith}
+use Rattle.std.proofs.Common.{◌≡◌, ℕ, suc, ◌+◌, ◌≤◌, Bool, true, false, cond, List, [], ◌∷◌, ◌++◌, length, take, refl, sym, ap, subst, ◌∙◌, arith}
 use Rattle.std.specs.Prelude.{◌==◌}
-use Rattle.std.specs.List.{prefix_len, list_all}
+use Rattle.std.specs.List.{prefix_len, list_all, take_while}
 use Rattle.std.proofs.lemmas.Bool.{and_parts, and_from}
 use Rattle.std.proofs.lemmas.List.{append-nil}
 use Rattle.litrs_base.specs.Text.{first_passes}
@@ -78,6 +78,18 @@ all_step p x xs false e more long = absurd (omega arith)
 pub all_from_prefix_len : (p : ℕ → Bool) (xs : List ℕ) → length xs ≤ prefix_len p xs → list_all p xs ≡ true
 all_from_prefix_len p [] long = refl
 all_from_prefix_len p (x ∷ xs) long = all_step p x xs (p x) refl (all_from_prefix_len p xs) long
+
+-- the front of a list whose elements pass
+pub list_all-take_while : (p : ℕ → Bool) (xs : List ℕ) → list_all p (take_while p xs) ≡ true
+list_all-take_while p [] = refl
+list_all-take_while p (x ∷ xs) = all_taken p x xs (p x) refl (list_all-take_while p xs)
+  where
+    all_taken : (p : ℕ → Bool) (x : ℕ) (xs : List ℕ) (v : Bool) → p x ≡ v → list_all p (take_while p xs) ≡ true →
+        list_all p (take (cond v (1 + prefix_len p xs) 0) (x ∷ xs)) ≡ true
+    all_taken p x xs true passes more =
+        let one_more : suc (prefix_len p xs) ≡ 1 + prefix_len p xs = omega arith in
+        subst (λ (n : ℕ). list_all p (take n (x ∷ xs)) ≡ true) one_more (and_from _ _ passes more)
+    all_taken p x xs false passes more = refl
 
 -- a text that ends with LF
 pub line_feed_last : (t : List ℕ) → last_passes is_line_feed (t ++ (10 ∷ [])) ≡ true

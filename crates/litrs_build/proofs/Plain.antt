@@ -16,7 +16,7 @@ use Rattle.ucd_table.specs.Rows.{in_ranges}
 use Rattle.litrs_base.specs.Characters.{is_ascii}
 use Rattle.litrs_base.specs.Text.{first_passes}
 use Rattle.litrs_base.proofs.Chars.{OnlyAscii, ascii_from_test, chars_ascii, passing_front}
-use Rattle.litrs_base.proofs.Runs.{list_all-weaken}
+use Rattle.litrs_base.proofs.Runs.{list_all-weaken, list_all-take_while}
 use Rattle.litrs_grammar.specs.Quoted.{item_text, body_text}
 use Rattle.litrs_build.specs.declared.spelling.Spelling.{Spelling}
 use Rattle.litrs_build.specs.declared.spelling.Spelling.TheVariants.{Plain}
@@ -62,18 +62,6 @@ plain_byte b plain =
     cond-true (is_ascii b) _ _ (grind (arith, nat_tests)) ∙ plain_spelling false b plain
 
 -- The front of a list that passes a test
-
-passes_step : (p : ℕ → Bool) (b : ℕ) (bs : List ℕ) (v : Bool) → p b ≡ v →
-    list_all p (take (prefix_len p bs) bs) ≡ true →
-    list_all p (take (cond v (1 + prefix_len p bs) 0) (b ∷ bs)) ≡ true
-passes_step p b bs true passes all =
-    let more : suc (prefix_len p bs) ≡ 1 + prefix_len p bs = omega arith in
-    subst (λ (n : ℕ). list_all p (take n (b ∷ bs)) ≡ true) more (and_from _ _ passes all)
-passes_step p b bs false passes all = refl
-
-pub front_passes : (p : ℕ → Bool) (bs : List ℕ) → list_all p (take (prefix_len p bs) bs) ≡ true
-front_passes p [] = refl
-front_passes p (b ∷ bs) = passes_step p b bs (p b) refl (front_passes p bs)
 
 pub none_passes : (p : ℕ → Bool) (bs : List ℕ) → first_passes p bs ≡ false → prefix_len p bs ≡ 0
 none_passes p [] stops = refl
@@ -137,7 +125,7 @@ chars_plain m text plain rest n u is front back some =
     let rest_is : chars (drop k text) ≡ chars rest =
     ap (λ (j : ℕ). chars (drop j text)) (sym is) ∙ ap chars (sym back) in
     let all : list_all is_plain_ascii plain ≡ true =
-    ap (list_all is_plain_ascii) plain_is ∙ front_passes is_plain_ascii text in
+    ap (list_all is_plain_ascii) plain_is ∙ list_all-take_while is_plain_ascii text in
     let split : chars text ≡ plain ++ chars rest =
     sym (take-append-drop k (chars text))
     ∙ (ap (λ (x : List ℕ). x ++ drop k (chars text)) (f.taken ∙ sym plain_is)
@@ -174,7 +162,7 @@ pub bytes_plain : (bytes plain rest : List ℕ) →
     ≡ plain ++ encode_utf8_all (body_text (byte_items rest))
 bytes_plain bytes plain rest front back =
     let all : list_all is_plain_ascii plain ≡ true =
-    ap (list_all is_plain_ascii) front ∙ front_passes is_plain_ascii bytes in
+    ap (list_all is_plain_ascii) front ∙ list_all-take_while is_plain_ascii bytes in
     ap (λ (x : List ℕ). encode_utf8_all (body_text (byte_items x)))
     (whole bytes plain rest front back)
     ∙ (ap encode_utf8_all (plain_bytes plain rest all)
@@ -235,7 +223,7 @@ pub c_plain : (m : Bool) (bytes plain rest : List ℕ) →
     ≡ plain ++ encode_utf8_all (body_text (c_items 0 false rest))
 c_plain m bytes plain rest front back some =
     let all : list_all is_plain_ascii plain ≡ true =
-    ap (list_all is_plain_ascii) front ∙ front_passes is_plain_ascii bytes in
+    ap (list_all is_plain_ascii) front ∙ list_all-take_while is_plain_ascii bytes in
     ap (λ (x : List ℕ). encode_utf8_all (body_text (c_items 0 m x)))
     (whole bytes plain rest front back)
     ∙ (ap encode_utf8_all (c_plain_chars m plain rest some all)

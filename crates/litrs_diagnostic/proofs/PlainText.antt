@@ -12,6 +12,7 @@ use Rattle.ucd_category.specs.GeneralCategory.{general_category}
 use Rattle.ucd_category.specs.GeneralCategoryRows.{general_category_rows}
 use Rattle.ucd_table.specs.Rows.{value_in}
 use Rattle.litrs_base.proofs.Chars.{OnlyAscii, ascii_from_test, passing_front}
+use Rattle.litrs_base.proofs.Runs.{list_all-take_while}
 use Rattle.litrs_diagnostic.specs.Printable.{is_printable}
 use Rattle.litrs_diagnostic.specs.Shown.{char_columns, columns, is_plain, shown, shown_char}
 use Rattle.litrs_diagnostic.proofs.Widths.{plain_column, printable_is_shown}
@@ -65,18 +66,6 @@ plain_columns (c ∷ t) all =
 
 -- ---- the front of a text
 
-passes_step : (p : ℕ → Bool) (b : ℕ) (bs : List ℕ) (v : Bool) → p b ≡ v →
-    list_all p (take (prefix_len p bs) bs) ≡ true →
-    list_all p (take (cond v (1 + prefix_len p bs) 0) (b ∷ bs)) ≡ true
-passes_step p b bs true passes all =
-    let more : suc (prefix_len p bs) ≡ 1 + prefix_len p bs = omega arith in
-    subst (λ (n : ℕ). list_all p (take n (b ∷ bs)) ≡ true) more (and_from _ _ passes all)
-passes_step p b bs false passes all = refl
-
-pub front_passes : (p : ℕ → Bool) (bs : List ℕ) → list_all p (take (prefix_len p bs) bs) ≡ true
-front_passes p [] = refl
-front_passes p (b ∷ bs) = passes_step p b bs (p b) refl (front_passes p bs)
-
 -- a text may be cut after it
 pub plain_cut : (text : List ℕ) (n : ℕ) → IsUtf8 text → n ≡ prefix_len is_plain text →
     IsCharBoundary text n
@@ -93,7 +82,7 @@ plain_parts text front back n u is fronts backs =
     let f = passing_front is_plain text plain_is_ascii u in
     let front_is : front ≡ take k text = fronts ∙ ap (λ (j : ℕ). take j text) is in
     let back_is : back ≡ drop k text = backs ∙ ap (λ (j : ℕ). drop j text) is in (
-      ap (list_all is_plain) front_is ∙ front_passes is_plain text,
+      ap (list_all is_plain) front_is ∙ list_all-take_while is_plain text,
       sym (take-append-drop k (chars text))
           ∙ (ap (λ (x : List ℕ). x ++ drop k (chars text)) (f.taken ∙ sym front_is)
           ∙ ap (λ (x : List ℕ). front ++ x) (f.rest ∙ ap chars (sym back_is))),

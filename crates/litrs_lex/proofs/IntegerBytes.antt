@@ -23,7 +23,8 @@ use Rattle.litrs_base.specs.Numeral.{is_no_underscore}
 use Rattle.litrs_grammar.specs.Integer.{integer_text, is_e, base_of, integer_cut, integer_cut_refusal, integer_refusal}
 use Rattle.litrs_lex.specs.IntegerCut.{integer_parts_at, IsIntegerWithin, IsDigitsCut}
 use Rattle.litrs_base.proofs.Chars.{chars_empty, OnlyAscii, IsAsciiFront, front_zero, front_front, begins_front, passing_front, prefix_len-chars, first_passes-chars, begins_with-chars, ascii_by_test}
-use Rattle.litrs_grammar.proofs.Laws.Integer.{cut_with, integer_cut-is, cut-spells, integer_rows, list_all-take_while}
+use Rattle.litrs_base.proofs.Runs.{list_all-take_while}
+use Rattle.litrs_grammar.proofs.Laws.Integer.{cut_with, integer_cut-is, cut-spells, integer_rows}
 
 -- only ASCII characters are digits or underscores
 pub digits_are_ascii : (base : IntegerBase) → OnlyAscii (is_digit_or_underscore base)

@@ -18,8 +18,9 @@ use Rattle.std.specs.Prelude.{not, ◌&&◌, ◌||◌, ◌==◌}
 use Rattle.std.proofs.lemmas.Bool.{ne_eqb, eqb-true, ltb-true}
 use Rattle.litrs_base.specs.Characters.{is_ascii, fits_charset, nul_is_allowed}
 use Rattle.litrs_base.specs.declared.quotes.Switches.{Switches}
+use Rattle.litrs_base.proofs.Runs.{list_all-take_while}
 use Rattle.litrs_grammar.specs.Quoted.{is_plain}
-use Rattle.litrs_grammar.proofs.Laws.Integer.{list_all-take_while, first_passes-rest}
+use Rattle.litrs_grammar.proofs.Laws.Integer.{first_passes-rest}
 
 abbrev pub AlikeFrom128 : (ℕ → Bool) → Bool → Type 0
 AlikeFrom128 p h = (c : ℕ) → 128 ≤ c → p c ≡ h

@@ -11,7 +11,7 @@ use Rattle.litrs_base.specs.Characters.{is_blank}
 use Rattle.litrs_base.specs.Text.{is_empty, first_passes, begins_with}
 use Rattle.litrs_base.proofs.Begins.{begins_with-split}
 use Rattle.litrs_base.proofs.Chars.{ascii_by_test, chars_empty, first_passes-chars, passing_front, prefix_len-chars}
-use Rattle.litrs_base.proofs.Runs.{list_all-append}
+use Rattle.litrs_base.proofs.Runs.{list_all-append, list_all-take_while}
 use Rattle.litrs_base.proofs.Spans.{is_ascii_char}
 use Rattle.litrs_base.specs.declared.quotes.StringKind.{StringKind}
 use Rattle.litrs_base.specs.declared.quotes.StringKind.TheVariants.{String as string_kind, ByteString as byte_string_kind, CString as c_string_kind}
@@ -33,7 +33,7 @@ use Rattle.litrs_grammar.proofs.LongerTexts.Quoted.{quoted_items_stay}
 use Rattle.litrs_lex.proofs.FloatBytes.{chars_after}
 use Rattle.litrs_lex.specs.Reading.{IsItemsEnd}
 use Rattle.litrs_lex.specs.RawCut.{IsStop, IsRawOpening}
-use Rattle.litrs_grammar.proofs.Laws.Integer.{list_all-take_while, first_passes-rest}
+use Rattle.litrs_grammar.proofs.Laws.Integer.{first_passes-rest}
 use Rattle.litrs_lex.proofs.QuotedBytes.{blank_ascii}
 use Rattle.litrs_lex.proofs.RawBytes.{closing_at, refused_body, suffix_refused, body_cut}
 use Rattle.litrs.proofs.Fronts.{front_chars}

@@ -17,6 +17,7 @@ use Rattle.litrs_base.specs.Base.{prefix, is_digit, is_digit_or_underscore}
 use Rattle.litrs_base.specs.Derivations.{IsOnlyDerivation, HasNoDerivation}
 use Rattle.litrs_grammar.specs.Integer.{IntegerParts, integer_text, IsInteger, IsIntegerOf, is_e, has_prefix, base_of, integer_cut, integer_cut_refusal, integer_refusal}
 use Rattle.litrs_base.proofs.Begins.{begins_with-split}
+use Rattle.litrs_base.proofs.Runs.{list_all-take_while}
 
 -- The rows of the refusals, by tests of the text
 
@@ -53,16 +54,6 @@ take_while_front p front rest all stops =
     take_at front rest (prefix_len p (front ++ rest)) (sym (prefix_len_front p front rest all stops))
 
 -- the part that passes from the front on, and the rest
-pub list_all-take_while : (p : ℕ → Bool) (xs : List ℕ) → list_all p (take_while p xs) ≡ true
-list_all-take_while p [] = refl
-list_all-take_while p (c ∷ xs) = all_taken p c xs (p c) refl (list_all-take_while p xs)
-  where
-    all_taken : (p : ℕ → Bool) (c : ℕ) (xs : List ℕ) (v : Bool) → p c ≡ v → list_all p (take_while p xs) ≡ true →
-        list_all p (take (cond v (1 + prefix_len p xs) 0) (c ∷ xs)) ≡ true
-    all_taken p c xs true passes more =
-        ap (λ n. list_all p (take n (c ∷ xs))) (one_more (prefix_len p xs)) ∙ and_from (p c) (list_all p (take_while p xs)) passes more
-    all_taken p c xs false passes more = refl
-
 pub first_passes-rest : (p : ℕ → Bool) (xs : List ℕ) → first_passes p (drop (prefix_len p xs) xs) ≡ false
 first_passes-rest p [] = refl
 first_passes-rest p (c ∷ xs) = stops p c xs (p c) refl (first_passes-rest p xs)

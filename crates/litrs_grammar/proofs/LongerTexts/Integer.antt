@@ -17,9 +17,9 @@ use Rattle.litrs_grammar.specs.Suffix.{is_suffix, suffix_kind}
 use Rattle.litrs_base.specs.Text.{byte_len, first_passes, is_empty}
 use Rattle.litrs_base.specs.Base.{prefix, is_digit, is_digit_or_underscore}
 use Rattle.litrs_grammar.specs.Integer.{IntegerParts, integer_text, is_e, base_of, integer_cut, integer_cut_refusal, integer_refusal, IsIntegerOf}
-use Rattle.litrs_base.proofs.Runs.{list_all-append, list_all-weaken}
+use Rattle.litrs_base.proofs.Runs.{list_all-append, list_all-weaken, list_all-take_while}
 use Rattle.litrs_grammar.proofs.LineFeeds.{is_other, suffix_other, no_line_feed}
-use Rattle.litrs_grammar.proofs.Laws.Integer.{take_while_front, list_all-take_while, first_passes-rest, integer_rows-None, cut_with, integer_cut-is, cut-spells, derivable, integer_refusal-free, refusal_of_digit, starts_with_digit}
+use Rattle.litrs_grammar.proofs.Laws.Integer.{take_while_front, first_passes-rest, integer_rows-None, cut_with, integer_cut-is, cut-spells, derivable, integer_refusal-free, refusal_of_digit, starts_with_digit}
 use Rattle.litrs_grammar.specs.LongerTexts.{BeginsBy, EndsBy}
 use Rattle.litrs_grammar.specs.GoesOn.Integer.{IntegerGoesOn}
 use Rattle.litrs_grammar.proofs.LongerTexts.Escape.{never}
