@@ -1,6 +1,6 @@
 -- Floats by computation: forms, where a text is cut, and each row of the table of refusals.
 use Prim.Native.String.{String}
-use Rattle.std.specs.Prelude.{◌≡◌, ℕ, List, [], Option, Some, None, refl, codes, true, false}
+use Rattle.std.specs.Prelude.{◌≡◌, ℕ, List, [], Option, Some, None, refl, codes, false}
 use Rattle.std.proofs.lemmas.Bool.{false≢true}
 use Rattle.litrs_base.specs.declared.err.ParseErrorKind.TheVariants as kind
 use Rattle.litrs_base.specs.declared.float.FloatType.TheVariants as type
