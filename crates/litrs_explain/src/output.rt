@@ -29,15 +29,6 @@ impl Output {
         }
     }
 
-    pub(crate) fn add(&mut self, report: &str) -> Result<(), Error> {
-        if report.len() >= BUFFER_LEN {
-            self.flush()?;
-            return self.write(report);
-        }
-        self.unwritten.push_str(report)?;
-        self.end_report()
-    }
-
     /// Ends the report that is at the end of `unwritten`. Writes the reports so far if there are
     /// many, or if the output is a terminal.
     pub(crate) fn end_report(&mut self) -> Result<(), Error> {

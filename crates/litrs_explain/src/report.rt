@@ -7,7 +7,7 @@ ghost use Rattle.litrs_explain.specs.Report.{place_text, message_text, note_text
 
 use crate::arguments;
 use crate::error::Error;
-use crate::json::{literal_object, problem_object};
+use crate::json::{push_literal_object, push_problem_object};
 use crate::options::Options;
 use crate::output::Output;
 use crate::place::{Place, Span};
@@ -160,8 +160,9 @@ impl<'a> Reports<'a> {
         literal: &Literal<B>,
     ) -> Result<(), Error> {
         self.literals = self.literals.saturating_add(1);
-        let object = literal_object(self.alloc, self.name, span, literal)?;
-        self.output.add(object.as_str())
+        let out = &mut self.output.unwritten;
+        push_literal_object(self.alloc, out, self.name, span, literal)?;
+        self.output.end_report()
     }
 
     /// Adds the report on an error.
@@ -171,12 +172,12 @@ impl<'a> Reports<'a> {
     {
         self.has_errors = true;
         self.errors = self.errors.saturating_add(1);
-        if self.options.json {
-            let object = problem_object(self.alloc, self.name, problem)?;
-            return self.output.add(object.as_str());
-        }
         let out = &mut self.output.unwritten;
-        push_problem(out, self.name, problem, self.options.color)?;
+        if self.options.json {
+            push_problem_object(self.alloc, out, self.name, problem)?;
+        } else {
+            push_problem(out, self.name, problem, self.options.color)?;
+        }
         self.output.end_report()
     }
 }
