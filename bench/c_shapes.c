@@ -73,6 +73,7 @@ static const shape shapes[] = {
     {"char, escaped", {"'\\n'", "'\\u{1f98a}'"}},
     {"byte", {"b'%b'", NULL}},
     {"string", {"\"%a\"", NULL}},
+    {"string, not ASCII", {"\"%aé%a\"", NULL}},
     {"string with escapes", {"\"%a\\n%a\\t\"", NULL}},
     {"raw string", {"r\"%a\"", "r#\"%a\"#"}},
     {"byte string", {"b\"%a\"", NULL}},

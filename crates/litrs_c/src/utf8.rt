@@ -10,7 +10,7 @@ use std::str::Utf8Error;
 /// # Errors
 ///
 /// Returns the error of [`str::from_utf8`] if `bytes` is not UTF-8.
-// ASCII is tested first, because that takes less than half of the time for at most 64 bytes.
+// ASCII is tested first, since for up to 64 bytes of it that needs neither a loop nor a call.
 #[inline(always)]
 pub(crate) fn from_utf8(bytes: &[u8]) -> Result<&str, Utf8Error>
     ensures { MatchResult result (λ text. text.now ≡ bytes.now) (λ _. IsUtf8 bytes.now → ⊥) }

@@ -84,7 +84,7 @@ integer_fields d =
     ++ (codes "\n  digits " ++ (encode_utf8_all d.main
     ++ (codes "\n  fits" ++ (names_that_fit (integer_value d) ++ codes "\n")))))))
 
--- The line on the digits after the period, which may be empty. Without a period there is no line.
+-- A line with the digits after the period, or the empty text if there is no period.
 abbrev pub fraction_field : Option (List ℕ) → List ℕ
 fraction_field None = []
 fraction_field (Some digits) = field (codes "fraction") (encode_utf8_all digits)
