@@ -18,7 +18,8 @@ use std::marker::Model;
 /// A float literal, for example `3.14`, `9.`, `27e-3` or `147.3_33__E3f64`.
 ///
 /// It consists of an integer part, a period with a fractional part, an exponent, and a suffix. The
-/// period or the exponent may be missing, but not both. The suffix may be empty. There is no sign.
+/// period or the exponent may be missing, but not both. A period without a fractional part ends the
+/// literal. The suffix may be empty. There is no sign.
 /// See [the reference][ref].
 ///
 /// [ref]: https://doc.rust-lang.org/reference/tokens.html#floating-point-literals

@@ -47,8 +47,8 @@
 //!
 //! # Prompts
 //!
-//! [`goes_on`] returns `true` if a text begins a literal. A reader accepts a text that is a
-//! literal, asks for more if some longer text is one, and otherwise shows the error:
+//! [`goes_on`] returns `true` if a text is a literal or incomplete. A reader accepts a text that is
+//! a literal, asks for more if some longer text is one, and otherwise shows the error:
 //!
 //! ```
 //! use litrs::ParseErrorKind::OutOfMemory;

@@ -150,7 +150,7 @@ impl ParseError {
         )
     }
 
-    /// Adds `offset` bytes to the start and the end of both spans. The sums fit.
+    /// Adds `offset` bytes to the start and the end of both spans. The sums must be below 2^64.
     pub fn offset_span(self, offset: usize) -> ParseError
         requires { MovesWithin offset self }
         ensures refusal { refusal_of result ≡ shifted offset (refusal_of self) }
@@ -237,7 +237,8 @@ pub enum ParseErrorKind {
     NoExponentDigits,
     /// A backslash is followed by a character that does not start an escape.
     UnknownEscape,
-    /// The text ends inside or after an escape, or the two bytes after `\x` end inside a character.
+    /// The text ends inside an escape or after a backslash and one character, or the two bytes
+    /// after `\x` end inside a character.
     UnterminatedEscape,
     /// `\x` is not followed by two hex digits.
     InvalidXEscape,

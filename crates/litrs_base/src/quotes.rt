@@ -54,8 +54,8 @@ impl CharKind {
 }
 
 impl StringKind {
-    /// Returns the place of the body of a quoted string, which is that of the end of the `r` of a
-    /// raw one, in bytes: 2 for `b"a"` and `br"a"`.
+    /// Returns the length in bytes of the front of a literal of this kind, quoted or raw: 2 for
+    /// `b"` and `br`.
     #[inline(always)]
     pub fn front_len(self) -> usize
         ensures quoted { result ≡ length (quoted_front self) }

@@ -27,8 +27,8 @@ use std::str;
 ///
 /// # Errors
 ///
-/// Returns `NotASuffix` if `suffix` is neither empty nor an identifier, otherwise `HasNul` if
-/// `value` contains a NUL, otherwise `Memory` if an allocation fails.
+/// Returns `NotASuffix` if `suffix` is neither empty nor an identifier other than `_`, otherwise
+/// `HasNul` if `value` contains a NUL, otherwise `Memory` if an allocation fails.
 ///
 /// [ref]: https://doc.rust-lang.org/reference/tokens.html#c-string-literals
 pub fn c_string(alloc: Global, value: &[u8], suffix: &str) -> Result<CStringLit<String>, BuildError>

@@ -24,8 +24,8 @@ use std::alloc::Global;
 ///
 /// # Errors
 ///
-/// Returns `NotASuffix` if `suffix` is neither empty nor an identifier, otherwise `Memory` if an
-/// allocation fails.
+/// Returns `NotASuffix` if `suffix` is neither empty nor an identifier other than `_`, otherwise
+/// `Memory` if an allocation fails.
 ///
 /// [ref]: https://doc.rust-lang.org/reference/tokens.html#character-literals
 pub fn char(alloc: Global, value: char, suffix: &str) -> Result<CharLit<String>, BuildError>
@@ -51,8 +51,8 @@ pub fn char(alloc: Global, value: char, suffix: &str) -> Result<CharLit<String>,
 ///
 /// # Errors
 ///
-/// Returns `NotASuffix` if `suffix` is neither empty nor an identifier, otherwise `Memory` if an
-/// allocation fails.
+/// Returns `NotASuffix` if `suffix` is neither empty nor an identifier other than `_`, otherwise
+/// `Memory` if an allocation fails.
 ///
 /// [ref]: https://doc.rust-lang.org/reference/tokens.html#byte-literals
 pub fn byte(alloc: Global, value: u8, suffix: &str) -> Result<ByteLit<String>, BuildError>

@@ -10,8 +10,8 @@ use std::fmt;
 /// The reason why a literal was not built.
 #[derive(Clone, Copy, Debug, PartialEq, Eq)]
 pub enum BuildError {
-    /// The suffix is neither empty nor an identifier, for example `u 8` or `_`; or no integer of
-    /// the base has it, for example `f32` in base sixteen.
+    /// The suffix is neither empty nor an identifier other than `_`, for example `u 8`; or no
+    /// integer of the base has it, for example `f32` in base sixteen.
     NotASuffix,
     /// The value of a C string contains a NUL.
     HasNul {

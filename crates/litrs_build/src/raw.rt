@@ -24,8 +24,9 @@ use std::str;
 ///
 /// # Errors
 ///
-/// Returns `NotASuffix` if `suffix` is neither empty nor an identifier, otherwise `NotRaw` if
-/// `value` contains a CR or needs more than 255 hashes, otherwise `Memory` if the allocation fails.
+/// Returns `NotASuffix` if `suffix` is neither empty nor an identifier other than `_`, otherwise
+/// `NotRaw` if `value` contains a CR or needs more than 255 hashes, otherwise `Memory` if the
+/// allocation fails.
 ///
 /// [ref]: https://doc.rust-lang.org/reference/tokens.html#raw-string-literals
 pub fn raw_string(alloc: Global, value: &str, suffix: &str) -> Result<StringLit<String>, BuildError>
@@ -53,9 +54,9 @@ pub fn raw_string(alloc: Global, value: &str, suffix: &str) -> Result<StringLit<
 ///
 /// # Errors
 ///
-/// Returns `NotASuffix` if `suffix` is neither empty nor an identifier. Otherwise returns `NotRaw`
-/// if `value` is not ASCII, contains a CR or needs more than 255 hashes. Otherwise returns `Memory`
-/// if the allocation fails.
+/// Returns `NotASuffix` if `suffix` is neither empty nor an identifier other than `_`. Otherwise
+/// returns `NotRaw` if `value` is not ASCII, contains a CR or needs more than 255 hashes. Otherwise
+/// returns `Memory` if the allocation fails.
 ///
 /// [ref]: https://doc.rust-lang.org/reference/tokens.html#raw-byte-string-literals
 pub fn raw_byte_string(
@@ -87,9 +88,9 @@ pub fn raw_byte_string(
 ///
 /// # Errors
 ///
-/// Returns `NotASuffix` if `suffix` is neither empty nor an identifier. Otherwise returns `HasNul`
-/// if `value` contains a NUL, and `NotRaw` if it is not UTF-8, contains a CR or needs more than 255
-/// hashes. Otherwise returns `Memory` if an allocation fails.
+/// Returns `NotASuffix` if `suffix` is neither empty nor an identifier other than `_`. Otherwise
+/// returns `HasNul` if `value` contains a NUL, and `NotRaw` if it is not UTF-8, contains a CR or
+/// needs more than 255 hashes. Otherwise returns `Memory` if an allocation fails.
 ///
 /// [ref]: https://doc.rust-lang.org/reference/tokens.html#raw-c-string-literals
 pub fn raw_c_string(

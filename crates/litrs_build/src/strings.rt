@@ -24,8 +24,8 @@ use std::alloc::{AllocError, Global};
 ///
 /// # Errors
 ///
-/// Returns `NotASuffix` if `suffix` is neither empty nor an identifier, otherwise `Memory` if an
-/// allocation fails.
+/// Returns `NotASuffix` if `suffix` is neither empty nor an identifier other than `_`, otherwise
+/// `Memory` if an allocation fails.
 ///
 /// [ref]: https://doc.rust-lang.org/reference/tokens.html#string-literals
 pub fn string(alloc: Global, value: &str, suffix: &str) -> Result<StringLit<String>, BuildError>

@@ -206,7 +206,7 @@ def parse(text: _Text) -> Literal:
 
 def parse_prefix(text: _Text) -> Optional[Tuple[Literal, int]]:
     """Parses the literal at the front of a text. Returns it with its length, or None if no literal
-    begins there, for example before a name or a blank. Raises ParseError if a malformed literal
+    begins there, for example before a name or white space. Raises ParseError if a malformed literal
     begins there, UnicodeDecodeError if any part of the bytes is not UTF-8, even after the literal,
     and MemoryError if there is no memory for the value."""
     data = _data(text)

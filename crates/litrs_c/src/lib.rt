@@ -105,7 +105,8 @@ pub struct RefusalFields {
     pub is_open: bool,
     /// The part of the text. The start is a character boundary.
     pub span: Place,
-    /// The part in whole characters: its end is the next character boundary.
+    /// The part in whole characters: its end is the least character boundary at or after that of
+    /// `span`.
     pub char_span: Place,
 }
 

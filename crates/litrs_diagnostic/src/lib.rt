@@ -1,5 +1,5 @@
-//! Shows a message on a range of a text as rustc does: the message, the place of the range's start,
-//! the line with its number, and carets below the range.
+//! Shows a message on a range of a text in the style of rustc: the message, the place of the
+//! range's start, the line with its number, and carets below the range.
 //!
 //! ```
 //! use litrs_diagnostic::{Diagnostic, shown};

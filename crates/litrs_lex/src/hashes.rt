@@ -7,7 +7,7 @@ ghost use Rattle.litrs_grammar.specs.Raw.{hashes, hash_len, is_hash, is_quote, r
 use crate::{Run, run_end};
 use std::simd::prelude::*;
 
-/// The greatest number of hashes of a raw literal.
+/// The greatest number of hashes on each side of a raw literal.
 pub const MAX_HASHES: usize = 255;
 
 /// The number of bytes that are compared in a step.

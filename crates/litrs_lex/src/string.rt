@@ -35,9 +35,9 @@ const LONGEST: usize = 8 * LONG;
 /// `"a\nb"u8` and 1 the value is `a`, LF and `b`, and the place is 6. See [the reference][ref].
 ///
 /// `offset` and the switches are those of [`cut_quoted`]. `byte_escapes` is set only if the
-/// container can hold all bytes. There is one allocation, of the length of the value, and none if
-/// that is 0 and NUL is allowed. If NUL is not allowed, it has one byte more, for the closing zero
-/// of a C string.
+/// container can hold all bytes. If the body has no backslash, there is no allocation. Otherwise
+/// there is one, of the length of the value, and none if that is 0 and NUL is allowed. If NUL is
+/// not allowed, it has one byte more, for the closing zero of a C string.
 ///
 /// # Errors
 ///

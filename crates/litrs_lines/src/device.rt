@@ -30,8 +30,8 @@ pub trait Input {
     /// A call has failed.
     ghost has_failed: { Self → Bool };
 
-    /// The second input is the first after the given number of reads, one or more, as far as is
-    /// known.
+    /// As far as is known, the given number of reads, at least one, turns the first input into the
+    /// second.
     ghost are_reads: { ℕ → Self → Self → Type 0 } = { λ _ _ _. ⊤ };
 
     /// Reads bytes into the front of `buffer` and returns their number.

@@ -106,7 +106,7 @@ impl fmt::Display for MalformedPrefix {
 impl Error for MalformedPrefix {}
 
 /// Parses the literal at the front of `text`. Returns it with the rest, or `None` if no literal
-/// begins there, for example before a name, a lifetime, a blank or punctuation.
+/// begins there, for example before a name, a lifetime, white space or punctuation.
 ///
 /// The literal is the only one that can be there. Its suffix is the whole name after its body, and
 /// no digit, period, quote or hash after it makes it another token. It allocates like

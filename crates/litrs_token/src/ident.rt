@@ -102,6 +102,7 @@ impl Ident {
     /// Sets the span of this identifier.
     ///
     /// ```rust
+    /// let mut name = Ident::new(rt.alloc(), "mask", Span::new(0, 4))?;
     /// name.set_span(Span::new(7, 11));
     /// assert_eq!(rt; name.span(), Span::new(7, 11));
     /// ```

@@ -142,6 +142,7 @@ impl Literal {
     /// Sets the span of this literal.
     ///
     /// ```rust
+    /// let mut literal = Literal::from_text(rt.alloc(), "27u8")?;
     /// literal.set_span(Span::new(4, 8));
     /// assert_eq!(rt; literal.span(), Span::new(4, 8));
     /// ```

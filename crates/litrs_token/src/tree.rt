@@ -95,6 +95,10 @@ impl Group {
     /// Sets the span of this group. The spans of the trees inside are unchanged.
     ///
     /// ```rust
+    /// let name = Ident::new(rt.alloc(), "a", Span::new(1, 2))?;
+    /// let mut stream = Vec::new(rt.alloc());
+    /// stream.push(TokenTree::from(name))?;
+    /// let mut group = Group::new(Delimiter::Parenthesis, stream);
     /// group.set_span(Span::new(0, 3));
     /// assert_eq!(rt; group.span(), Span::new(0, 3));
     /// assert_eq!(rt; group.stream()[0].span(), Span::new(1, 2));

@@ -41,8 +41,8 @@ fn answer_to(alloc: Global, text: &str) -> Result<String, AllocError>
     }
 }
 
-/// Returns the answer to a line. It is empty if the line drops the lines that are held: if it is
-/// `:cancel`, or empty if none is held.
+/// Returns the answer to a line. It is empty for `:cancel` if lines are held, and for an empty line
+/// if none is.
 ///
 /// # Errors
 ///
