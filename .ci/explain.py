@@ -11,6 +11,7 @@ Runs both builds of crates/litrs_explain, which `rt ci` leaves in its out/, or t
 - colors, which change nothing else;
 - files, the standard input and texts, in each order, one of which cannot be read;
 - wrong arguments, and bytes that are not UTF-8, in a line and in an argument;
+- quotes and shebangs at lines that are not UTF-8, and a CR before a line end;
 - outputs that are closed or full, an input that fails, and a terminal;
 - a long text in short lines, of which the program must hold less than 1 MB;
 - a long line, whose reports the program must not hold;
@@ -49,6 +50,12 @@ INTEGERS = [
     (str(2**127 - 1), str(2**127 - 1), ""),
     (str(2**128 - 1), str(2**128 - 1), ""),
     (str(2**128), str(2**128), ""),
+]
+# The name of a file, and how lines and messages show it.
+SHOWN_NAMES = [
+    ("a\x1b[2J\nb", rb"a\u{1b}[2J\nb"),
+    ("a\u202eb\u200b", rb"a\u{202e}b\u{200b}"),
+    ("na\u00efve \u2208", "na\u00efve \u2208".encode()),
 ]
 # The text of a float, and its value as Rust's `{:?}` prints it, or `None` if it is infinite.
 FLOATS = [
@@ -392,14 +399,15 @@ class Tests:
         out, said, status = self.run("--", "b.txt", "-V", cwd=folder)
         self.hold(out.startswith(b"b.txt:1:1:") and status == 2 and b": -V: " in said, f"{said}")
         self.hold(self.run("b.txt", "--format", "json", cwd=folder)[0][:1] == b"{", "option last")
-        name = "a\x1b[2J\nb"
-        (folder / name).write_bytes(b"1\n0b2\n")
-        out, said, status = self.run(name, cwd=folder)
-        shown = [b"a\\u{1b}[2J\\nb:1:1:", b"a\\u{1b}[2J\\u{a}b:2:3\n"]
-        is_shown = all(it in out for it in shown) and b"\x1b" not in out and b"J\nb" not in out
-        self.hold(is_shown and (said, status) == (b"", 1), f"{name!r}: {out} {said} {status}")
-        names = [it["file"] for it in self.objects(name, given="", status=1, cwd=folder)]
-        self.hold(names == [name] * 2, f"{name!r}: {names}")
+        for name, shown in SHOWN_NAMES:
+            (folder / name).write_bytes(b"1\n0b2\n")
+            out, said, status = self.run(name, cwd=folder)
+            is_shown = out.startswith(shown + b":1:1:") and b"--> " + shown + b":2:3\n" in out
+            is_raw = name.encode() in out and name.encode() != shown
+            ended = (said, status) == (b"", 1)
+            self.hold(is_shown and not is_raw and ended, f"{name!r}: {out} {said} {status}")
+            names = [it["file"] for it in self.objects(name, given="", status=1, cwd=folder)]
+            self.hold(names == [name] * 2, f"{name!r}: {names}")
 
     def try_hints(self, folder):
         """Tries hints, which name an option, and texts without hints."""
@@ -460,6 +468,31 @@ class Tests:
         self.hold(self.run("-e", "#!/bin/run")[2] == 1, "no shebang where lines are literals")
         (it,) = self.objects("--prefix", given=b"#!/bin/run \xff 1\n", status=1)
         self.hold(it["error"] == "NotUtf8", f"a shebang that is not UTF-8: {it}")
+
+    def try_bad_lines(self):
+        """Tests what a line that is not UTF-8 ends and begins, and that a CR before a line end is
+        shown if it is wrong."""
+        runs = [
+            (b"'\n\xff\n", ["UnterminatedCharLiteral", "NotUtf8"]),
+            (b"b'\n# \xff\n1\n", ["UnterminatedByteLiteral", "NotUtf8", "1"]),
+            (b"1 '\n\xff\n2\n", ["1", "UnterminatedCharLiteral", "NotUtf8", "2"]),
+            (b"'\n'\xff\n1\n", ["NotUtf8", "1"]),
+            (b"\xff '\n\xff\n1\n", ["NotUtf8", "NotUtf8", "1"]),
+            (b'"\n\xff\n" 1\n', ["NotUtf8", "1"]),
+            (b'#!/bin/sh \xff "\n1\n', ["NotUtf8", "1"]),
+            (b"#!/bin/sh \xff /*\n1\n", ["NotUtf8", "1"]),
+            (b'#![a] \xff "\n1\n" 2\n', ["NotUtf8", "2"]),
+            (b'\xff #! "\n1\n" 2\n', ["NotUtf8", "2"]),
+            (b'// \xff "\n1\n', ["NotUtf8", "1"]),
+        ]
+        for given, wanted in runs:
+            found = self.objects("--prefix", given=given, status=1)
+            found = [it.get("error", it.get("text")) for it in found]
+            self.hold(found == wanted, f"{given}: {found}")
+        for given in (b'"a\r\r\nb"', b'"a\r\r\n', b'"a\rb"'):
+            for words in ([], ["--prefix"]):
+                out = self.run(*words, given=given)[0]
+                self.hold(b'\n1 | "a\\u{d}' in out and b"\n  |   ^^^^^\n" in out, f"{given}: {out}")
 
     def try_not_utf8(self, folder):
         """Tests that an argument that is not UTF-8 is named, and that the others are explained."""
@@ -690,6 +723,7 @@ def main():
             tests.try_hints(folder)
             tests.try_skipped()
             tests.try_shebang(folder)
+            tests.try_bad_lines()
             tests.try_not_utf8(folder)
             tests.try_streams(folder)
             tests.try_closed()

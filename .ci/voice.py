@@ -39,7 +39,7 @@ LENGTHS = {
     "crates/litrs_c/README.md": 1200,
     "docs/DECISIONS.md": 1400,
     "docs/DIFFERENCES.md": 1000,
-    "docs/EXPLAIN.md": 650,
+    "docs/EXPLAIN.md": 700,
     "docs/GATE.md": 1000,
     "docs/GRAMMAR.md": 4050,
     "docs/LINES.md": 550,

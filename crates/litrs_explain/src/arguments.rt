@@ -1,6 +1,7 @@
 //! The arguments of the program, which need not be UTF-8.
 use std::alloc::{AllocError, Global};
 use std::env::{Env, FillError};
+use ucd_category::{GeneralCategory, GeneralCategoryGroup};
 
 /// The size in bytes of the first buffer for an argument.
 const ARGUMENT_LEN: usize = 256;
@@ -62,20 +63,28 @@ pub(crate) fn is_utf8(argument: &str) -> bool {
     !argument.contains(ESCAPE)
 }
 
-/// Returns an argument as a message names it: bytes that are not UTF-8 as `\xff`, and control
-/// characters escaped.
+/// Returns an argument as a message names it: bytes that are not UTF-8 as `\xff`, and characters
+/// that are not printable escaped.
 pub(crate) fn shown(alloc: Global, argument: &str) -> Result<String, AllocError> {
     let mut shown = String::new(alloc);
     for c in argument.chars() {
         if c == ESCAPE {
             shown.push('\\')?;
-        } else if c.is_control() {
+        } else if is_printable(c) {
+            shown.push(c)?;
+        } else {
             for part in c.escape_default() {
                 shown.push(part)?;
             }
-        } else {
-            shown.push(c)?;
         }
     }
     Ok(shown)
+}
+
+/// Returns `true` if `litrs_diagnostic` shows `c` as it is.
+fn is_printable(c: char) -> bool {
+    let category = GeneralCategory::for_char(c);
+    c == ' '
+        || !(GeneralCategoryGroup::Other.contains(category)
+            || GeneralCategoryGroup::Separator.contains(category))
 }

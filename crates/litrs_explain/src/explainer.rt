@@ -1,11 +1,12 @@
 //! Explains the literals of a file line by line.
-ghost use Rattle.std.specs.Prelude.{◌≡◌, ◌≤◌, ◌<◌, ◌+◌, ◌-◌, ◌^◌, ◌↔◌, ◌++◌, [], ℕ, length, IfOk, OnOk, IsTrue, slice_range, string_bytes};
+ghost use Rattle.std.specs.Prelude.{◌≡◌, ◌≤◌, ◌<◌, ◌+◌, ◌-◌, ◌^◌, ◌↔◌, ◌++◌, [], ℕ, drop, length, IfOk, OnOk, IsTrue, slice_range, string_bytes};
 ghost use Rattle.std.specs.Str.{chars, IsCharBoundary};
 ghost use Rattle.litrs_base.specs.CharEnd.{IsCutBy};
 ghost use Rattle.litrs_base.specs.Refusal.{marked_span};
 ghost use Rattle.litrs_diagnostic.specs.Position.{line_number, column_in};
 ghost use Rattle.litrs_grammar.specs.Literal.{literal_parse, Begins};
 ghost use Rattle.litrs_grammar.specs.Refused.{IsRefusedOrOutOfMemory};
+ghost use Rattle.litrs_explain.specs.Comments.{from_line_feed};
 ghost use Rattle.litrs_explain.specs.Places.{IsTokenOf, IsMark, AreMarks};
 
 use crate::error::Error;
@@ -114,16 +115,22 @@ impl<'a> Explainer<'a> {
     ///
     /// Returns the errors of [`Explainer::feed`].
     pub(crate) fn finish(&mut self) -> Result<(), Error> {
-        if self.open.take().is_some() {
-            let (text, start) = self.take_held()?;
-            self.explain_tokens(text.as_str(), start, true)?;
-        }
+        self.end_tokens()?;
         if self.collector.is_empty() {
             return Ok(());
         }
         let text = String::from_str(self.alloc, self.collector.text())?;
         self.collector.clear();
         self.explain_text(text.as_str(), false)
+    }
+
+    /// Explains the tokens of the text that is held, to which no further line belongs.
+    fn end_tokens(&mut self) -> Result<(), Error> {
+        if self.open.take().is_some() {
+            let (text, start) = self.take_held()?;
+            self.explain_tokens(text.as_str(), start, true)?;
+        }
+        Ok(())
     }
 
     /// Like [`Explainer::feed`], for a line that is UTF-8, without its end.
@@ -395,8 +402,9 @@ impl<'a> Explainer<'a> {
     {
         let marked = marked_part(text, &piece, error);
         let mark = mark.moved_before(text, marked.start);
+        let end = line_end(text, marked.end, around_end(text, marked.end));
         let problem = Problem {
-            source: &text[mark.at..around_end(text, marked.end)],
+            source: &text[mark.at..end],
             place: mark.place,
             marked: marked.start - mark.at..marked.end - mark.at,
             bytes: self.in_file(marked.start)..self.in_file(marked.end),
@@ -410,6 +418,9 @@ impl<'a> Explainer<'a> {
     /// line also closes and opens tokens.
     fn refuse_bytes(&mut self, line: &[u8]) -> Result<(), Error> {
         if self.reports.options.prefix {
+            if matches!(self.open, Some(Open::SingleQuote)) && !line.starts_with(b"'") {
+                self.end_tokens()?;
+            }
             self.add_bytes_problem(line)?;
             let text = readable(self.alloc, line)?;
             // An LF may come between the two.
@@ -475,6 +486,24 @@ fn around_end(text: &str, at: usize) -> usize
     ensures last { (i : ℕ) → result < i → i ≤ at + 1024 → IsCharBoundary text.now i → ⊥ }
 {
     text.floor_char_boundary(at.saturating_add(AROUND))
+}
+
+/// Returns the place of the first LF from `at` to `end`, or `end` if there is no LF. A message leaves
+/// out a CR before an LF, but in `text` such a CR does not belong to the line end.
+fn line_end(text: &str, at: usize, end: usize) -> usize
+    requires at { IsCharBoundary text.now at }
+    requires end { IsCharBoundary text.now end }
+    requires order { at ≤ end }
+    ensures boundary { IsCharBoundary text.now result }
+    ensures after { at ≤ result }
+    ensures before { result ≤ end }
+    ensures line { from_line_feed (slice_range text.now at end)
+        ≡ drop (result - at) (slice_range text.now at end) }
+{
+    match text[at..end].find('\n') {
+        Some(len) => at + len,
+        None => end,
+    }
 }
 
 /// Returns `true` if more text can complete `text`, whose error is `error`, to a literal. Most

@@ -343,18 +343,27 @@ impl<'a> Run<'a> {
     }
 }
 
-/// Replaces a shebang, the first line of a file, by as many blanks, which moves nothing after it.
+/// Replaces the ASCII of a shebang, the first line of a source, by blanks, so that nothing else
+/// moves.
 fn blank_shebang(line: &mut [u8]) {
-    let rest = match str::from_utf8(line) {
-        Ok(text) => strip_shebang(text),
-        Err(_) => return,
-    };
-    if rest.is_empty() || rest.starts_with('\n') {
-        let len = line.len().saturating_sub(rest.len());
-        for byte in line.iter_mut().take(len) {
+    if !is_shebang(line) {
+        return;
+    }
+    for byte in line.iter_mut() {
+        if byte.is_ascii() && *byte != b'\n' {
             *byte = b' ';
         }
     }
+}
+
+/// Returns `true` if the first line of a source is a shebang, even if it is not UTF-8.
+fn is_shebang(line: &[u8]) -> bool {
+    let Some(chunk) = line.utf8_chunks().next() else {
+        return false;
+    };
+    let text = chunk.valid();
+    let rest = strip_shebang(text);
+    text.contains("#!") && (rest.is_empty() || rest.starts_with('\n'))
 }
 
 /// Returns `true` if a file was not read because there is no such file.

@@ -93,7 +93,7 @@ pub(crate) struct Reports<'a> {
     pub(crate) output: Output,
     /// The name of the file that is read.
     name: &'a str,
-    /// The name with control characters escaped.
+    /// The name as messages show it.
     shown_name: String,
     /// The number of literals in it.
     literals: usize,
@@ -176,7 +176,7 @@ impl<'a> Reports<'a> {
         if self.options.json {
             push_problem_object(self.alloc, out, self.name, problem)?;
         } else {
-            push_problem(out, self.name, problem, self.options.color)?;
+            push_problem(out, self.shown_name.as_str(), problem, self.options.color)?;
         }
         self.output.end_report()
     }

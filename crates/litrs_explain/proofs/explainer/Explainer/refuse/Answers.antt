@@ -11,6 +11,6 @@ invariant_of-problem c =
     record {
       cuts = subst (λ (t : List ℕ). IsCutBy t (record { start = marked.start - from; end = marked.end - from }))
           (sym c.range.ensures.value)
-          (cut_within c.args.text.now from c.around_end.result marked c.around_end.ensures.boundary.0 c.moved_before-mark.ensures.mark.before
-          c.around_end.ensures.after c.marked_part-marked.ensures.cuts);
+          (cut_within c.args.text.now from c.line_end-end.result marked c.line_end-end.ensures.boundary.0 c.moved_before-mark.ensures.mark.before
+          c.line_end-end.ensures.after c.marked_part-marked.ensures.cuts);
     }
