@@ -1,7 +1,7 @@
 //! The arguments of the program, which need not be UTF-8.
+use litrs_build::is_printable;
 use std::alloc::{AllocError, Global};
 use std::env::{Env, FillError};
-use ucd_category::{GeneralCategory, GeneralCategoryGroup};
 
 /// The size in bytes of the first buffer for an argument.
 const ARGUMENT_LEN: usize = 256;
@@ -79,12 +79,4 @@ pub(crate) fn shown(alloc: Global, argument: &str) -> Result<String, AllocError>
         }
     }
     Ok(shown)
-}
-
-/// Returns `true` if `litrs_diagnostic` shows `c` as it is.
-fn is_printable(c: char) -> bool {
-    let category = GeneralCategory::for_char(c);
-    c == ' '
-        || !(GeneralCategoryGroup::Other.contains(category)
-            || GeneralCategoryGroup::Separator.contains(category))
 }
