@@ -43,6 +43,6 @@ shown t = flat_map shown_char t
 abbrev pub char_columns : ℕ → ℕ
 char_columns c = unwrap_or (char_width false c) 0
 
--- The columns of a text are those of its characters, each by itself, as rustc counts them.
+-- The columns of a text are those of its characters, each by itself.
 abbrev pub columns : List ℕ → ℕ
 columns t = sum_by char_columns t

@@ -44,7 +44,8 @@ pub struct Fault<'a> {
     ghost marks: { IsCutBy at.now span },
 }
 
-/// A token that is neither white space nor a closed comment, or `""` at the end of a line.
+/// A token other than white space, a line comment and a whole block comment, or `""` at the end of
+/// a line.
 #[derive(Clone, Copy)]
 pub struct Word<'a> {
     /// The text from the token on.

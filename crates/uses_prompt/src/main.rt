@@ -1,5 +1,5 @@
 //! A prompt for literals. It reads lines until they are a literal and prints its explanation, or
-//! shows the error, at most 100 columns of a line.
+//! shows the error, at most 100 columns of a line. Arguments other than `--help` are ignored.
 #![tactic(auto)]
 
 ghost use Rattle.std.specs.Prelude.{◌≡◌, ◌↔◌, IfOk, IfSome, IfNone, IsNone, string_bytes};
