@@ -488,8 +488,8 @@ fn around_end(text: &str, at: usize) -> usize
     text.floor_char_boundary(at.saturating_add(AROUND))
 }
 
-/// Returns the place of the first LF from `at` to `end`, or `end` if there is no LF. A message leaves
-/// out a CR before an LF, but in `text` such a CR does not belong to the line end.
+/// Returns the place of the first LF from `at` to `end`, or `end` if there is no LF. A message
+/// leaves out a CR before an LF, but in `text` such a CR does not belong to the line end.
 fn line_end(text: &str, at: usize, end: usize) -> usize
     requires at { IsCharBoundary text.now at }
     requires end { IsCharBoundary text.now end }
