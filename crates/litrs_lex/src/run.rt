@@ -61,6 +61,9 @@ fn is_in_run(byte: u8, run: Run) -> bool
 /// Returns the length of the run at the front of `bytes`.
 ///
 /// ```
+/// use litrs_base::IntegerBase;
+/// use litrs_lex::{Run, run_end};
+///
 /// assert_eq!(rt; run_end(b"1_0a2", Run::Digits(IntegerBase::Decimal)), 3);
 /// assert_eq!(rt; run_end(b"1_0a2", Run::Digits(IntegerBase::Hexadecimal)), 5);
 /// assert_eq!(rt; run_end("größe".as_bytes(), Run::Identifier), 2);

@@ -52,6 +52,8 @@ impl Mask {
 /// `from` is at most the length of `bytes`.
 ///
 /// ```
+/// use litrs_lex::{Special, next_special};
+///
 /// let what = Special { backslash: true, nul: false, non_ascii: false };
 /// assert_eq!(rt; next_special(b"ab\\n\"", 0, what), 2);
 /// assert_eq!(rt; next_special(b"ab\\n\"", 3, what), 4);
@@ -73,13 +75,6 @@ pub fn next_special(bytes: &[u8], from: usize, what: Special) -> usize
 /// close to each other cost one load.
 ///
 /// `from` is at most the length of `bytes`, and at least the start of `mask`.
-///
-/// ```
-/// let what = Special { backslash: true, nul: false, non_ascii: false };
-/// let (first, mask) = next_special_masked(b"a\\n\\t\"", 0, what, Mask::empty_at(0));
-/// let (second, _) = next_special_masked(b"a\\n\\t\"", first + 2, what, mask);
-/// assert_eq!(rt; (first, second), (1, 3));
-/// ```
 #[inline(always)]
 pub fn next_special_masked(bytes: &[u8], from: usize, what: Special, mask: Mask) -> (usize, Mask)
     requires from { from ≤ length bytes.now }

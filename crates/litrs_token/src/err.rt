@@ -48,7 +48,10 @@ impl InvalidToken {
     /// They can be used as an item, a statement or an expression. The identifier, the `!` and the
     /// group have the span of the token, and the string inside has the call-site span.
     ///
-    /// ```rust
+    /// ```
+    /// use litrs::IntegerLit;
+    /// use litrs_token::{FromToken, Punct, Spacing, TokenError, TokenTree};
+    ///
     /// let tree = TokenTree::from(Punct::new('+', Spacing::Alone));
     /// let Err(TokenError::Invalid(invalid)) = IntegerLit::from_tree(rt.alloc(), tree) else {
     ///     unreachable!();

@@ -50,8 +50,11 @@ pub trait FromToken: Drop {
 
     /// Converts a token to a literal, for example `27` to an integer.
     ///
-    /// ```rust
-    /// let token = litrs_token::Literal::from_text(rt.alloc(), "0xFF_u8")?;
+    /// ```
+    /// use litrs::IntegerLit;
+    /// use litrs_token::{FromToken, Literal};
+    ///
+    /// let token = Literal::from_text(rt.alloc(), "0xFF_u8")?;
     /// let lit = IntegerLit::from_literal(rt.alloc(), token)?;
     /// assert_eq!(rt; lit.value::<u8>(), Some(255));
     /// ```
@@ -73,8 +76,11 @@ pub trait FromToken: Drop {
 
     /// Like [`from_literal`](FromToken::from_literal), but borrows the token.
     ///
-    /// ```rust
-    /// let token = litrs_token::Literal::from_text(rt.alloc(), "0xFF_u8")?;
+    /// ```
+    /// use litrs::{CharLit, IntegerLit};
+    /// use litrs_token::{FromToken, Literal};
+    ///
+    /// let token = Literal::from_text(rt.alloc(), "0xFF_u8")?;
     /// assert!(rt; CharLit::from_literal_ref(rt.alloc(), &token).is_err());
     /// assert!(rt; IntegerLit::from_literal_ref(rt.alloc(), &token).is_ok());
     /// ```
@@ -93,10 +99,13 @@ pub trait FromToken: Drop {
 
     /// Converts a tree to a literal.
     ///
-    /// ```rust
+    /// ```
+    /// use litrs::{BoolLit, Literal};
+    /// use litrs_token::{FromToken, Ident, Span, TokenTree};
+    ///
     /// let name = Ident::new(rt.alloc(), "true", Span::call_site())?;
-    /// let lit = litrs::Literal::from_tree(rt.alloc(), TokenTree::from(name))?;
-    /// assert!(rt; matches!(&lit, litrs::Literal::Bool(BoolLit::True)));
+    /// let lit = Literal::from_tree(rt.alloc(), TokenTree::from(name))?;
+    /// assert!(rt; matches!(&lit, Literal::Bool(BoolLit::True)));
     /// ```
     ///
     /// # Errors

@@ -47,7 +47,9 @@ impl Ident {
     ///
     /// An identifier is `_` or an XID_Start character, followed by XID_Continue characters.
     ///
-    /// ```rust
+    /// ```
+    /// use litrs_token::{Ident, IdentError, Span};
+    ///
     /// let name = Ident::new(rt.alloc(), "mask", Span::new(0, 4))?;
     /// assert_eq!(rt; name.text(), "mask");
     /// let raw = Ident::new(rt.alloc(), "r#a", Span::new(0, 3));
@@ -101,7 +103,9 @@ impl Ident {
 
     /// Sets the span of this identifier.
     ///
-    /// ```rust
+    /// ```
+    /// use litrs_token::{Ident, Span};
+    ///
     /// let mut name = Ident::new(rt.alloc(), "mask", Span::new(0, 4))?;
     /// name.set_span(Span::new(7, 11));
     /// assert_eq!(rt; name.span(), Span::new(7, 11));

@@ -20,7 +20,10 @@ pub trait IntoToken: Drop {
 
     /// Converts this literal to a token with the same text and the call-site span.
     ///
-    /// ```rust
+    /// ```
+    /// use litrs::IntegerLit;
+    /// use litrs_token::IntoToken;
+    ///
     /// let token = IntegerLit::parse("27u8")?.into_token(rt.alloc())?;
     /// assert_eq!(rt; token.text(), "27u8");
     /// ```
@@ -51,7 +54,10 @@ pub trait IntoIdent: Drop {
 
     /// Converts this literal to an identifier with the call-site span.
     ///
-    /// ```rust
+    /// ```
+    /// use litrs::BoolLit;
+    /// use litrs_token::IntoIdent;
+    ///
     /// let name = BoolLit::True.into_ident(rt.alloc())?;
     /// assert_eq!(rt; name.text(), "true");
     /// ```

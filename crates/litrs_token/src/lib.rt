@@ -37,6 +37,8 @@
 //! // compile_error! { "expected an integer literal (e.g. `27`), but found an identifier" }.
 //! ```
 //!
+//! In the examples of its items `rt` is the runtime that a test gets.
+//!
 //! [ref]: https://doc.rust-lang.org/reference/procedural-macros.html
 #![tactic(auto)]
 

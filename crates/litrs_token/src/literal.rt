@@ -44,7 +44,9 @@ pub enum LiteralError {
 impl Literal {
     /// Creates a literal from `text`, with the call-site span.
     ///
-    /// ```rust
+    /// ```
+    /// use litrs_token::{Literal, LiteralError};
+    ///
     /// let literal = Literal::from_text(rt.alloc(), "27u8")?;
     /// assert_eq!(rt; literal.text(), "27u8");
     /// let negative = Literal::from_text(rt.alloc(), "-1");
@@ -73,7 +75,9 @@ impl Literal {
     /// `"`, backslash, LF, CR, tab and NUL are written as `\"`, `\\`, `\n`, `\r`, `\t` and `\0`,
     /// and every other character as it is. The string has no suffix. See [the reference][ref].
     ///
-    /// ```rust
+    /// ```
+    /// use litrs_token::Literal;
+    ///
     /// let literal = Literal::string(rt.alloc(), "a\n\"b\"")?;
     /// assert_eq!(rt; literal.text(), r#""a\n\"b\"""#);
     /// ```
@@ -100,7 +104,9 @@ impl Literal {
 
     /// Creates a literal from `text`, a literal of the kind `kind`, with the call-site span.
     ///
-    /// ```rust
+    /// ```
+    /// use litrs_token::Literal;
+    ///
     /// let literal = Literal::from_text(rt.alloc(), "27u8")?;
     /// let copy = Literal::copied(rt.alloc(), literal.text(), literal.kind())?;
     /// assert_eq!(rt; copy.text(), "27u8");
@@ -141,7 +147,9 @@ impl Literal {
 
     /// Sets the span of this literal.
     ///
-    /// ```rust
+    /// ```
+    /// use litrs_token::{Literal, Span};
+    ///
     /// let mut literal = Literal::from_text(rt.alloc(), "27u8")?;
     /// literal.set_span(Span::new(4, 8));
     /// assert_eq!(rt; literal.span(), Span::new(4, 8));
@@ -157,7 +165,9 @@ impl Literal {
     /// Returns the kind of this literal: `IntegerLit` for `27`. It is one of the seven kinds of
     /// literals that are tokens.
     ///
-    /// ```rust
+    /// ```
+    /// use litrs_token::{Literal, TokenKind};
+    ///
     /// let literal = Literal::from_text(rt.alloc(), "27u8")?;
     /// assert_eq!(rt; literal.kind(), TokenKind::IntegerLit);
     /// ```

@@ -33,7 +33,9 @@ impl Model for Punct {
 impl Punct {
     /// Creates punctuation from `character`, with the call-site span. `character` is not checked.
     ///
-    /// ```rust
+    /// ```
+    /// use litrs_token::{Punct, Spacing, Span};
+    ///
     /// // The first character of `+=`.
     /// let plus = Punct::new('+', Spacing::Joint);
     /// assert_eq!(rt; plus.as_char(), '+');
@@ -74,7 +76,9 @@ impl Punct {
 
     /// Sets the span of this punctuation.
     ///
-    /// ```rust
+    /// ```
+    /// use litrs_token::{Punct, Spacing, Span};
+    ///
     /// let mut mark = Punct::new('!', Spacing::Alone);
     /// mark.set_span(Span::new(3, 4));
     /// assert_eq!(rt; mark.span(), Span::new(3, 4));

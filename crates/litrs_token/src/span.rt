@@ -27,7 +27,9 @@ impl Model for Span {
 impl Span {
     /// Creates a span of the bytes from `start` up to `end`. `start` is at most `end`.
     ///
-    /// ```rust
+    /// ```
+    /// use litrs_token::Span;
+    ///
     /// let span = Span::new(2, 5);
     /// assert_eq!(rt; (span.start(), span.end()), (2, 5));
     /// ```

@@ -50,7 +50,9 @@ pub enum TokenTree {
 impl Group {
     /// Creates a group of the trees in `stream`, with the call-site span.
     ///
-    /// ```rust
+    /// ```
+    /// use litrs_token::{Delimiter, Group, Ident, Span, TokenTree};
+    ///
     /// let name = Ident::new(rt.alloc(), "a", Span::new(1, 2))?;
     /// let mut stream = Vec::new(rt.alloc());
     /// stream.push(TokenTree::from(name))?;
@@ -94,7 +96,9 @@ impl Group {
 
     /// Sets the span of this group. The spans of the trees inside are unchanged.
     ///
-    /// ```rust
+    /// ```
+    /// use litrs_token::{Delimiter, Group, Ident, Span, TokenTree};
+    ///
     /// let name = Ident::new(rt.alloc(), "a", Span::new(1, 2))?;
     /// let mut stream = Vec::new(rt.alloc());
     /// stream.push(TokenTree::from(name))?;
@@ -127,7 +131,9 @@ impl TokenTree {
 
     /// Sets the span of this tree. The spans of the trees inside a group are unchanged.
     ///
-    /// ```rust
+    /// ```
+    /// use litrs_token::{Punct, Spacing, Span, TokenTree};
+    ///
     /// let mut tree = TokenTree::from(Punct::new('+', Spacing::Alone));
     /// tree.set_span(Span::new(2, 3));
     /// assert_eq!(rt; tree.span(), Span::new(2, 3));
