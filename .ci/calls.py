@@ -8,7 +8,7 @@ public fields of each type of its first cell, as they are declared. Below "All c
 names types, traits, public modules or the crate. The first cell of each line of its table has
 calls of each of them, with their signatures. A call `Owner::call(..)` is of this owner alone. A
 parameter is `name: Type` or `Type`, and `alloc` is `alloc: Global`. Lifetimes may be left out, and
-`..` in a return type is any part of it.
+`..` in a return type is any part of it. A call with generic arguments has all of them.
 
 Fails if a public type, variant, field or function is not listed, or is listed twice. Fails also if
 a listed one is not public, or if a signature differs.
@@ -21,9 +21,9 @@ import libraries
 
 CRATES = libraries.TOP / "crates"
 DECLARED = r"^pub (?:enum|struct|trait|(?:const )?fn) (\w+)"
-# A function after its name: its parameters and its return type.
-FUNCTION = r"(?:<[^(]*>)?\(([^)]*)\)(?: -> (.*?))?\s*(?:requires|ensures|\{|;|$)"
-CALL = re.compile(r"`(?:(\w+)::)?(\w+)(?:::<[\w, ]+>)?\(([^)]*)\)(?: -> ([^`]*))?`")
+# A function after its name: its generic parameters, its parameters and its return type.
+FUNCTION = r"(<[^(]*>)?\(([^)]*)\)(?: -> (.*?))?\s*(?:requires|ensures|\{|;|$)"
+CALL = re.compile(r"`(?:(\w+)::)?(\w+)(?:::(<[\w, ]+>))?\(([^)]*)\)(?: -> ([^`]*))?`")
 USED = re.compile(r"^pub use ([\w:]+)::(\{[^}]*\}|\w+);", re.M)
 
 
@@ -92,11 +92,13 @@ def plain(text, owner):
     return re.sub(rf"(?<!::)\b{owner}\b(<B>)?", "Self", text)
 
 
-def signature(parameters, answer, owner):
-    """Returns the types of the parameters of a function, and its return type."""
+def signature(generic, parameters, answer, owner):
+    """Returns the types of the parameters of a function, its return type, and the number of its
+    generic parameters without lifetimes. `generic` has these, or the arguments of a call."""
+    count = sum(not it.startswith("'") for it in parts((generic or "<>")[1:-1]))
     types = [re.sub(r"^mut (?=self$)|^(mut )?\w+: ", "", it) for it in parts(parameters)]
     types = ["Global" if it == "alloc" else plain(it, owner) for it in types]
-    return types, plain(answer or "()", owner)
+    return types, plain(answer or "()", owner), count
 
 
 def functions_of(crate, path, name):
@@ -122,7 +124,7 @@ def public_of(crate):
         source = module(declaring, place)
         function = re.compile(rf"^pub (?:const )?fn {name}\b{FUNCTION}", re.M | re.S)
         if found := function.search(source):
-            calls[path or crate, name] = signature(found[1], found[2], path or crate)
+            calls[path or crate, name] = signature(*found.groups(), path or crate)
             continue
         if (listed := members(source, name)) is not None:
             types[name] = listed
@@ -150,9 +152,10 @@ def listed_calls(page):
         head, _, table = part.partition("\n")
         for cell in re.findall(r"^\| (`.*?) \|", table, re.M):
             for call in re.findall(r"`[^`]*`", cell):
-                found = CALL.fullmatch(call) or [call, None, call, "", ""]
-                for owner in [found[1]] if found[1] else re.findall(r"`([\w:]+)`", head):
-                    yield (owner, found[2]), signature(found[3], found[4], owner)
+                found = CALL.fullmatch(call)
+                named, name, *types = found.groups() if found else (None, call, "", "", "")
+                for owner in [named] if named else re.findall(r"`([\w:]+)`", head):
+                    yield (owner, name), signature(*types, owner)
 
 
 def is_answer(listed, public):
@@ -180,6 +183,8 @@ def faults_of(public, listed):
         known = calls.get(call, its)
         if its[0] != known[0] or not is_answer(its[1], known[1]):
             yield f"{'::'.join(call)} is {shown(known)}, and not {shown(its)}"
+        if its[2] not in (0, known[2]):
+            yield f"{'::'.join(call)} has {known[2]} generic parameters, and not {its[2]}"
 
 
 def main():
