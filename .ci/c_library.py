@@ -559,6 +559,9 @@ def faults_of_words(folder, archive):
             yield f"build {words}: status {ran.returncode}, {ran.stdout}{ran.stderr}"
         if list(room.iterdir()):
             yield f"build {words} writes {list(room.iterdir())}"
+    ran = run_build(room, "/dev/null", "a")
+    if (ran.returncode, ran.stderr[:7]) != (1, "build: ") or list(room.iterdir()):
+        yield f"build of an archive without calls: {ran.returncode}, {ran.stdout}{ran.stderr}"
 
 
 INSTALLED = "include/litrs.h lib/liblitrs.a lib/liblitrs.so lib/liblitrs.so.1".split()
@@ -567,8 +570,8 @@ INSTALLED += "lib/liblitrs.so.1.0.1 lib/pkgconfig/litrs.pc share/litrs/litrs.py"
 
 def faults_of_removal(folder, archive):
     """Yields the faults of the files below DESTDIR, once installed and once removed."""
-    prefix, destination = str(folder / "usr"), str(folder / "package")
-    top = pathlib.Path(destination + prefix)
+    prefix, destination = str(folder / "usr"), "-package"
+    top = pathlib.Path(f"{folder}/{destination}{prefix}")
     own = top / "include/own.h"
     own.parent.mkdir(parents=True)
     own.write_text("")
@@ -587,6 +590,9 @@ def faults_of_removal(folder, archive):
         ran = run_build(folder, archive, "--uninstall", prefix, DESTDIR=destination)
         if ran.returncode != status or files() or pycache.parent.exists() or not own.exists():
             yield f"removed with status {ran.returncode}: {files()} {ran.stdout}{ran.stderr}"
+    (top / "lib/liblitrs.so").mkdir()
+    if not run_build(folder, archive, prefix, DESTDIR=destination).returncode:
+        yield "a folder in the place of a library is no fault"
 
 
 def blocks_of_page(language):

@@ -179,6 +179,8 @@ def faults_of_walks(module):
     *_, token = module.tokens("é 0b12")
     same = [copy.copy(token), copy.deepcopy(token), pickle.loads(pickle.dumps(token))]
     yield None if same == [token] * 3 else f"copies of a token are {same}"
+    made = module.Token("MalformedLiteral", "0b12", 2, 6, False, None)
+    yield None if {made} == {token} else f"{made} is not {token}"
     for it in (token, *same):
         error = answer(lambda token: token.literal(), it)
         yield None if error[2]["span"] == (5, 6) and "(at 6..7)" in error[1][0] else f"{error}"
@@ -219,11 +221,15 @@ def faults_of_writers(module):
 def own_kind(module):
     """Returns a subclass of ParseError whose constructor has other parameters."""
 
+    def __new__(kind, file, error):
+        return module.ParseError.__new__(kind)
+
     def __init__(self, file, error):
         module.ParseError.__init__(self, *[getattr(error, it) for it in FIELDS])
         self.file = file
 
-    kind = type("OwnError", (module.ParseError,), {"__init__": __init__, "__module__": __name__})
+    own = {"__new__": __new__, "__init__": __init__, "__module__": __name__}
+    kind = type("OwnError", (module.ParseError,), own)
     # pickle finds the class by this name.
     globals()["OwnError"] = kind
     return kind

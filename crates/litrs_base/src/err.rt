@@ -237,8 +237,8 @@ pub enum ParseErrorKind {
     NoExponentDigits,
     /// A backslash is followed by a character that does not start an escape.
     UnknownEscape,
-    /// The text ends inside an escape or after a backslash and one character, or the two bytes
-    /// after `\x` end inside a character.
+    /// The text, in a quoted string without its last character, ends inside an escape or after a
+    /// backslash, or the two bytes after `\x` end inside a character.
     UnterminatedEscape,
     /// `\x` is not followed by two hex digits.
     InvalidXEscape,
@@ -248,7 +248,7 @@ pub enum ParseErrorKind {
     UnicodeEscapeInByteLiteral,
     /// The braces of `\u{..}` are empty, or begin with `_`.
     InvalidStartOfUnicodeEscape,
-    /// `\u` is not followed by `{`.
+    /// `\u` is not followed by `{`, or in a quoted string only by one that ends the text.
     UnicodeEscapeWithoutBrace,
     /// A character inside `\u{..}` is neither a hex digit nor `_`.
     NonHexDigitInUnicodeEscape,
@@ -256,7 +256,7 @@ pub enum ParseErrorKind {
     TooManyDigitInUnicodeEscape,
     /// The value of a `\u{..}` escape is not a Unicode scalar value.
     InvalidUnicodeEscapeChar,
-    /// A `\u{` has no closing brace.
+    /// A `\u{` has no closing brace, or in a quoted string only one that ends the text.
     UnterminatedUnicodeEscape,
     /// A char has no closing quote.
     UnterminatedCharLiteral,

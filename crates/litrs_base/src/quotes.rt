@@ -67,8 +67,8 @@ impl StringKind {
         }
     }
 
-    /// Returns the switches of this kind: a byte string allows only ASCII characters, and `\x80` to
-    /// `\xff`.
+    /// Returns the switches of this kind: a byte string allows only ASCII characters, byte strings
+    /// and C strings allow `\x80` to `\xff`, and a C string allows no NUL.
     #[inline(always)]
     pub fn switches(self) -> Switches
         ensures { result ≡ switches_of self }

@@ -22,8 +22,8 @@
 //!
 //! - LF, CR, tab and NUL as `\n`, `\r`, `\t` and `\0`, the backslash as `\\`, and the closing quote
 //!   as `\"` or `\'`;
-//! - other ASCII characters that are not printable ([`is_printable`]), and bytes that are not text,
-//!   as `\x` and two digits;
+//! - other ASCII characters that are not printable ([`is_printable`]), and bytes above 7F, in a C
+//!   string only those that are not UTF-8, as `\x` and two digits;
 //! - other characters that are not printable as `\u{..}`. So is a combining character
 //!   (Grapheme_Extend) after the opening quote or an escape, as it would be shown on top of that.
 //!

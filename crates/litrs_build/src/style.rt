@@ -57,7 +57,8 @@ pub enum Lines {
 pub enum Groups {
     /// Each `_` stays where it is.
     Kept,
-    /// Digits among which there is a `_` are written in groups. Other digits are not.
+    /// The digits of an integer that has a `_` before its suffix are written in groups. Others stay
+    /// as they are.
     Regrouped(GroupLens),
     /// All digits are written in groups.
     Grouped(GroupLens),

@@ -29,8 +29,8 @@ use std::alloc::{AllocError, Global};
 /// The text may be longer than that of `lit`. An unescaped character that is not printable is
 /// escaped, and so is a combining one (Grapheme_Extend) after the opening quote or an escape.
 ///
-/// There is one allocation for the text, and one for the value if [`Literal::parse`] makes one; for
-/// a bool there is none.
+/// There is one allocation for the text, and one for the value if [`Literal::parse`] of that text
+/// makes one; for a bool there is none.
 ///
 /// # Errors
 ///

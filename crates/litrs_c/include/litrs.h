@@ -143,9 +143,9 @@ typedef struct litrs_literal {
     litrs_bool has_value;    /* of a bool, a char, a byte, and an integer below 2^128 */
     uint64_t value_low;      /* the value modulo 2^64, or 0 without has_value */
     uint64_t value_high;     /* the value divided by 2^64, rounded down, or 0 without has_value */
-    litrs_place main;        /* the digits of an integer, of a float before period and exponent */
-    litrs_place fraction;    /* of a float: the digits after the period */
-    litrs_place exponent;    /* of a float: the exponent, with its letter and sign */
+    litrs_place main;        /* digits and _ of an integer, of a float before period and exponent */
+    litrs_place fraction;    /* of a float: digits and _ after the period; 0..0 without one */
+    litrs_place exponent;    /* of a float: exponent, with letter and sign; empty without one */
     litrs_place suffix;      /* the suffix, which ends the text; empty if there is none */
 } litrs_literal;
 

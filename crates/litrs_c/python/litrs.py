@@ -16,7 +16,6 @@ UnicodeEncodeError.
 The library is the file that LITRS_LIBRARY names, the one that was installed with this module, or
 the loader's.
 """
-import copyreg
 import ctypes
 import dataclasses
 import functools
@@ -108,8 +107,9 @@ class Literal:
     suffix    such as "u8", or ""
     base      of an integer: 2, 8, 10 or 16; else 0
     is_raw    True for a raw string of one of the three kinds
-    main      the digits of an integer after its prefix, of a float before period and exponent
-    fraction  the digits of a float after its period, or None if it has no period
+    main      the digits and underscores of an integer after its prefix, of a float before period
+              and exponent
+    fraction  those of a float after its period, or None if it has no period
     exponent  the exponent of a float, with its letter and sign
     """
 
@@ -153,12 +153,17 @@ class ParseError(ValueError):
 
     def __reduce__(self):
         # The constructor does not take what `args` has, which is the message alone.
-        return copyreg.__newobj__, (type(self), *self.args), self.__dict__
+        return _error_without_init, (type(self), self.args), self.__dict__
+
+
+def _error_without_init(kind, args):
+    """Returns an error of this class, without a call of its constructor."""
+    return ValueError.__new__(kind, *args)
 
 
 @dataclasses.dataclass(frozen=True)
 class Token:
-    """A token of a Rust source.
+    """A token of a Rust source, as `tokens` makes it.
 
     kind       "Whitespace", "LineComment", "BlockComment", "UnterminatedBlockComment", "Ident",
                "RawIdent", "UnknownPrefix", "Lifetime", "RawLifetime", "UnknownPrefixLifetime",
@@ -177,7 +182,8 @@ class Token:
     end: int
     is_trivia: bool
     doc_style: Optional[str]
-    _offset: int = dataclasses.field(default=0, repr=False)  # where it starts, in bytes
+    # Where it starts in the source, in bytes.
+    _offset: int = dataclasses.field(default=0, repr=False, compare=False)
 
     def literal(self) -> Optional[Literal]:
         """Parses the literal of a token of the kind "Literal". Returns None if the kind is neither

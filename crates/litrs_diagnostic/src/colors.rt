@@ -4,7 +4,7 @@ ghost use Rattle.litrs_diagnostic.specs.Colors.{color_code, opening, closing};
 
 use std::fmt;
 
-/// A color of a terminal, as rustc uses it in messages.
+/// A color of a terminal, for a part of a message.
 #[derive(Clone, Copy, Debug, PartialEq, Eq)]
 pub enum Color {
     /// The color of errors.

@@ -83,7 +83,7 @@ pub fn shown(alloc: Global, diagnostic: &Diagnostic) -> Result<String, AllocErro
     format!(in alloc; "{diagnostic}")
 }
 
-/// Like [`shown`], in the colors of rustc, for a terminal.
+/// Like [`shown`], in colors like those of rustc, for a terminal.
 ///
 /// # Errors
 ///

@@ -203,7 +203,7 @@ impl fmt::Display for Diagnostic<'_> {
     }
 }
 
-/// A message in the colors of rustc, for a terminal. `Display` writes it.
+/// A message in colors like those of rustc, for a terminal. `Display` writes it.
 #[derive(Clone, Copy, Debug)]
 pub struct Colored<'a>(pub Diagnostic<'a>);
 

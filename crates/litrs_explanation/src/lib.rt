@@ -86,8 +86,9 @@ pub fn explanation<B: Buffer>(alloc: Global, literal: &Literal<B>) -> Result<Str
 
 /// Appends to `out` the lines that explain `literal`: its kind, its value, and each of its parts.
 ///
-/// Every character of them is an LF or printable, by `litrs_build`'s `is_printable`: values are
-/// shown as literals, and a character of the suffix that is not printable as `\u{..}`.
+/// Every character of them is an LF or printable, by `litrs_build`'s `is_printable`: the values of
+/// chars and strings are shown as literals, and a character of the suffix that is not printable as
+/// `\u{..}`.
 ///
 /// # Errors
 ///

@@ -22,7 +22,7 @@ use litrs_base::{CharKind, ParseError, ParseErrorKind, Unescape, split_first_cha
 /// - `UnterminatedCharLiteral` if nothing follows the first quote, or no quote closes the literal.
 /// - `UnescapedSingleQuote` for `'''`, at 1..2, and `EmptyCharLiteral` for another `''`.
 /// - `UnescapedSpecialWhitespace` for LF, tab or CR, at 1..2.
-/// - The error of [`unescape`], with both spans moved by one byte.
+/// - The error of [`unescape`](crate::unescape), with both spans moved by one byte.
 /// - `OverlongCharLiteral` if a quote follows, but not directly.
 /// - The error of [`check_suffix`], at the first byte of the suffix.
 ///
@@ -55,7 +55,7 @@ pub fn cut_char(input: &str) -> Result<(char, usize), ParseError>
 /// - `UnescapedSingleQuote` for `b'''`, at 2..3, and `EmptyByteLiteral` for another `b''`.
 /// - `UnescapedSpecialWhitespace` for LF, tab or CR, and `NonAsciiInByteLiteral` for a character
 ///   that is not ASCII, at its first byte.
-/// - The error of [`unescape`], with both spans moved by two bytes.
+/// - The error of [`unescape`](crate::unescape), with both spans moved by two bytes.
 /// - `OverlongByteLiteral` if a quote follows, but not directly.
 /// - The error of [`check_suffix`], at the first byte of the suffix.
 ///

@@ -36,8 +36,8 @@ pub struct QuotedCut {
 /// # Errors
 ///
 /// Returns the first error in `input`, from `offset` on:
-/// - the error of [`unescape`] at a backslash that starts neither an escape nor a continuation; the
-///   escape is parsed without the last character of `input`;
+/// - the error of [`unescape`](crate::unescape) at a backslash that starts neither an escape nor a
+///   continuation; the escape is parsed without the last character of `input`;
 /// - `CarriageReturn` at a CR, `NulByte` at a NUL that is not allowed, and `NonAsciiInByteLiteral`
 ///   at a character that is not ASCII and not allowed, over its first byte;
 /// - `UnterminatedString`, without a span, if there is no closing quote;

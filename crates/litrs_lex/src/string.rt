@@ -34,15 +34,15 @@ const LONGEST: usize = 8 * LONG;
 /// body has no backslash and equals the value, and the place of the suffix, in bytes. For
 /// `"a\nb"u8` and 1 the value is `a`, LF and `b`, and the place is 6. See [the reference][ref].
 ///
-/// `offset` and the switches are those of [`cut_quoted`]. `byte_escapes` is set only if the
-/// container can hold all bytes. If the body has no backslash, there is no allocation. Otherwise
-/// there is one, of the length of the value, and none if that is 0 and NUL is allowed. If NUL is
-/// not allowed, it has one byte more, for the closing zero of a C string.
+/// `offset` and the switches are those of [`cut_quoted`](crate::cut_quoted). `byte_escapes` is set
+/// only if the container can hold all bytes. If the body has no backslash, there is no allocation.
+/// Otherwise there is one, of the length of the value, and none if that is 0 and NUL is allowed. If
+/// NUL is not allowed, it has one byte more, for the closing zero of a C string.
 ///
 /// # Errors
 ///
-/// Returns the error of [`cut_quoted`]. Returns `OutOfMemory` without a span if `input` is a
-/// literal whose body has a backslash, and the allocation of its value fails.
+/// Returns the error of [`cut_quoted`](crate::cut_quoted). Returns `OutOfMemory` without a span if
+/// `input` is a literal whose body has a backslash, and the allocation of its value fails.
 ///
 /// [ref]: https://doc.rust-lang.org/reference/tokens.html#string-literals
 #[inline(always)]

@@ -1,5 +1,6 @@
-//! Cuts Rust source into tokens, as the lexer of the compiler does. Each text that is not empty has
-//! one token at its front, and no other; a malformed one is a token too.
+//! Cuts Rust source into tokens, as the lexer of the compiler does, but for the texts that the page
+//! of this crate lists. Each text that is not empty has one token at its front, and no other; a
+//! malformed one is a token too.
 //!
 //! | Text | Kinds of its tokens |
 //! |---|---|

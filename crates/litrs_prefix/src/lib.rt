@@ -82,8 +82,8 @@ impl MalformedPrefix {
     /// Returns the part of the source to mark, in bytes: the character span of the error, or the
     /// malformed prefix if the error has none.
     ///
-    /// `start` is that of [`parse_prefix_at`], and 0 for [`parse_prefix`]. The source can be cut
-    /// at both ends. For `x = "a` from 4 on that is 4..6.
+    /// `start` is that of [`parse_prefix_at`] or [`parse_until`], and 0 for [`parse_prefix`]. The
+    /// source can be cut at both ends. For `x = "a` from 4 on that is 4..6.
     pub fn marked_span(&self, start: usize) -> Range<usize>
         requires { start + self.now.len < 2 ^ 64 }
         ensures { result ≡ marked_at start self.now }
